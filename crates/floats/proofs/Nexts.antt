@@ -1,18 +1,18 @@
 -- N3: the next lower value is lower, and no value lies between. Assumes nothing.
-use mathlib.Core.Path.{_≡_, refl, sym, ap, _∙_, subst}
+use mathlib.Core.Path.{_≡_, refl, sym, ap, subst}
 use mathlib.Core.Bool.{Bool, true, false, true≢false}
-use mathlib.Core.Logic.{_⊎_, inl, inr, ⊎-elim}
+use mathlib.Core.Logic.{⊎-elim}
 use Prim.Native.Nat.{ℕ, zero, suc, _+_, _-_, _*_, _^_, _≤_, _<_}
 use native.Mathlib.Nat.{zero-mul, mul-pos}
 use native.Mathlib.Omega.{arith}
-use lib.IntN.{ℤ, pos}
+use lib.IntN.{ℤ}
 use lib.Dec.{T}
-use lib.Ieee.{Float, nan, inf, fin, binary64, neg, lt, eq, fits, ofBits, toBits}
+use lib.Ieee.{Float, nan, inf, fin, binary64, neg, fits, ofBits, toBits}
 use lib.Ieee.Fits.{and-r}
 use lib.Ieee.Bits.{ofBits-toBits}
 use lib.Ieee.Scale.{finite}
 use Rattle.lists.proofs.Picks.{le-or-lt}
-use Rattle.ieee.proofs.Rank.{unit, middle, scale, scale-pos, rank, signed, ordered, ordered-fits, middle-pos, magnitude-lt}
+use Rattle.ieee.proofs.Rank.{middle, scale, scale-pos, rank, ordered, ordered-fits, middle-pos}
 use Rattle.ieee.proofs.Patterns.{infinityBits, infinity-rank, zero-rank, bits-lt, bits-neg, bits-ordered, neg-rank, neg-bits, pattern, pattern-before, pattern-after}
 use Rattle.ieee.proofs.Values.{neg-ordered}
 use Rattle.floats.specs.Next.{nextDown}
@@ -138,8 +138,8 @@ none-below (fin s m d) e f = absurd (true≢false e)
 pub next-down : (y : Float) → T (ordered y) → 0 < rank y → Next y (nextDown y)
 next-down y t h = ⊎-elim
     (λ (l : rank y ≤ middle). ⊎-elim
-      (λ (k : middle ≤ rank y). let e : rank y ≡ middle = omega arith in subst (Next y) (sym (at-zero y t e)) (from-below y 0 (omega arith) (omega (arith, zero-rank))))
-      (λ (k : rank y < middle). subst (Next y) (sym (below-zero y t h k)) (magnitude y (negative y t h k)))
-      (le-or-lt middle (rank y)))
+    (λ (k : middle ≤ rank y). let e : rank y ≡ middle = omega arith in subst (Next y) (sym (at-zero y t e)) (from-below y 0 (omega arith) (omega (arith, zero-rank))))
+    (λ (k : rank y < middle). subst (Next y) (sym (below-zero y t h k)) (magnitude y (negative y t h k)))
+    (le-or-lt middle (rank y)))
     (λ (l : middle < rank y). subst (Next y) (sym (above-zero y t l)) (from-above y t l))
     (le-or-lt (rank y) middle)

@@ -1,11 +1,10 @@
 -- The larger and the smaller of two numbers are the maximum and the minimum of their ranks. Assumes nothing.
-use mathlib.Core.Path.{_≡_, refl, sym, ap, _∙_}
+use mathlib.Core.Path.{_≡_}
 use mathlib.Core.Bool.{Bool, true, false}
 use Prim.Native.Nat.{ℕ, _≤_, _<_, min, max}
 use native.Mathlib.Omega.{arith}
 use lib.Dec.{T}
 use lib.Ieee.{Float, lt}
-use lib.Ieee.Scale.{finite}
 use Rattle.lists.specs.Pick.{pick}
 use Rattle.lists.proofs.Picks.{pick-cases, pick-true, pick-false}
 use Rattle.ieee.proofs.Rank.{rank, ordered, lt-ranks, not-lt-ranks, ranks-lt, ranks-not-lt}

@@ -1,14 +1,14 @@
 -- What the tests in the code of this crate show of a value. Assumes nothing.
 use mathlib.Core.Path.{_≡_, refl, sym, ap, _∙_, subst}
 use mathlib.Core.Bool.{Bool, true, false, true≢false}
-use Prim.Native.Nat.{ℕ, zero, suc, _+_, _-_, _*_, _^_, _≤_, _<_, min}
-use native.Mathlib.Nat.{one-mul, zero-mul}
+use Prim.Native.Nat.{_+_, _-_, _*_, _^_, _≤_, _<_, min}
+use native.Mathlib.Nat.{one-mul}
 use native.Mathlib.Omega.{arith}
 use lib.IntN.{pos}
 use lib.Dec.{T, lit≤}
 use lib.Ieee.{Float, nan, inf, fin, binary64, div, neg, fits, lt, ofBits, toUnsigned}
 use lib.Ieee.Scale.{finite}
-use Rattle.ieee.proofs.Rank.{unit, unit-pos, middle, middle-is, scale, rank, ordered, ordered-of, lt-ranks, not-lt-ranks, ranks-lt, lt-right}
+use Rattle.ieee.proofs.Rank.{unit, unit-pos, middle, scale, rank, ordered, ordered-of, lt-ranks, not-lt-ranks, ranks-lt, lt-right}
 use Rattle.ieee.proofs.Patterns.{zero-rank, bits-ordered}
 use Rattle.floats.specs.Whole.{whole, floor, ceil}
 use Rattle.floats.proofs.Wholes.{floor-at-most, floor-at-least, ceil-even}

@@ -1,10 +1,9 @@
 -- Whole numbers below and above a value, by its rank; a whole number lies below a value rounded up exactly where it lies below the value. Assumes nothing.
-use mathlib.Core.Path.{_≡_, refl, sym, ap, _∙_, subst}
-use mathlib.Core.Bool.{Bool, true, false}
+use mathlib.Core.Path.{_≡_, sym, ap, _∙_, subst}
+use mathlib.Core.Bool.{true, false}
 use Prim.Native.Nat.{ℕ, suc, _+_, _-_, _*_, _/_, _^_, _≤_, _<_}
 use native.Mathlib.Nat.{le-refl, lt-of-mul-lt-mul-right, mul-lt-mul-of-pos-right, le-of-eq, le-trans, lt-of-lt-of-le, mul-right-comm, one-mul, zero-div, suc-mul, mul-le-mul-right, le-div-iff-mul-le, div-lt-iff-lt-mul, div-mul-le-self}
 use native.Mathlib.Omega.{arith}
-use lib.IntN.{pos}
 use lib.Dec.{T, ltb, leb, leb→le, le→leb, ltb→lt, lt→ltb, nltb→le, not-T}
 use borrow.Author.Tests.{ltb-false}
 use lib.Ieee.{Float, nan, inf, fin, binary64, up, down, fits, lt}
@@ -92,7 +91,6 @@ floor-ceil (inf true) = omega arith
 floor-ceil (inf false) = le-refl (2 ^ 1024)
 floor-ceil (fin true m e) = omega arith
 floor-ceil (fin false m e) = le-div-iff-mul-le (down-pos e) .1 (let k = div-mul-le-self (m * up e) (down e) in omega arith)
-
 
 -- ---- rounding goes by the rank alone, so by the value
 pub floor-mono : (x y : Float) → T (ordered x) → T (ordered y) → rank x ≤ rank y → floor x ≤ floor y

@@ -1,6 +1,6 @@
 -- The next lower f64 ("next lower f64 of y1"): IEEE 754's nextDown, by bit patterns.
 use mathlib.Core.Bool.{true, false}
-use Prim.Native.Nat.{ℕ, zero, suc, _+_, _-_}
+use Prim.Native.Nat.{zero, suc, _+_, _-_}
 use lib.Ieee.{Float, nan, inf, fin, binary64, ofBits, toBits}
 
 -- Above zero the pattern below, below zero the pattern above; of a zero the negative number of least magnitude. Minus infinity and a NaN stay.

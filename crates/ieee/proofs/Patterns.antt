@@ -1,23 +1,23 @@
 -- The bit patterns of binary64 are in the order of the values: above zero the pattern after a value's is the next value's, and setting the sign bit
 -- negates. Assumes nothing.
 use mathlib.Core.Path.{_≡_, refl, sym, ap, _∙_, subst}
-use mathlib.Core.Bool.{Bool, true, false, not, _&&_, cond, true≢false}
+use mathlib.Core.Bool.{Bool, true, false, not, cond, true≢false}
 use mathlib.Core.Logic.{_⊎_, inl, inr, ⊎-elim}
 use Prim.Native.Nat.{ℕ, zero, suc, _+_, _-_, _*_, _/_, _%_, _^_, _≤_, _<_}
 use native.Mathlib.Nat.{le-trans, le-of-eq, le-of-lt, lt-of-lt-of-le, eq-or-lt-of-le, mul-one, mul-le-mul-left, mul-le-mul-right, mul-lt-mul-of-pos-right, eq-of-mul-eq-mul-right, pow-suc, lt-of-not-le}
 use native.Mathlib.Omega.{arith}
-use lib.IntN.{ℤ, pos}
+use lib.IntN.{ℤ}
 use lib.Dec.{T, ltb, leb, eqb, ltb→lt, lt→ltb, lit<}
 use lib.Pow.{pow-pos, pow-mono}
 use lib.Arith.{le→nltb}
 use borrow.Author.Tests.{lt-leb, le-leb, ne-eqb}
 use lib.Ieee.{Float, nan, inf, fin, binary64, down, up, odd, neg, fits, ofBits, ofFields, toBits, nanBits}
-use lib.Ieee.Fits.{and-i, and-l, and-r, down-pos}
+use lib.Ieee.Fits.{and-i, and-r, down-pos}
 use lib.Ieee.Exact.{HasValue, odd-sign}
 use lib.Ieee.Scale.{finite}
 use lib.Ieee.Bits.{ofBits-toBits, ofBits-fits, toBits-lt, nanBits-above}
 use Rattle.lists.proofs.Picks.{same-bool, le-or-lt}
-use Rattle.ieee.proofs.Rank.{unit, middle, scale, rank, signed, ordered, ordered-fits, notNan, finite-notNan, magnitude-law, magnitude-lt, middle-pos}
+use Rattle.ieee.proofs.Rank.{unit, middle, scale, rank, ordered, ordered-fits, notNan, finite-notNan, magnitude-law, magnitude-lt, middle-pos}
 
 -- the pattern of infinity: the last that is no NaN's, the sign apart
 abbrev pub infinityBits : ℕ
@@ -241,9 +241,9 @@ module _ (b : ℕ) (z : Float) (t : T (ordered z)) where
   pattern-before h k l = ⊎-elim
       (λ (g : rank z ≤ middle). let o = bits-le 0 (b - 1) (omega arith) (omega arith) in let w = zero-rank in omega arith)
       (λ (g : middle < rank z). let r = back in let p = pattern z t g in ⊎-elim
-        (λ (i : b ≤ toBits binary64 z). let n = bits-le b (toBits binary64 z) i (p .1) in omega arith)
-        (λ (i : toBits binary64 z < b). let n = bits-le (toBits binary64 z) (b - 1) (omega arith) (omega arith) in omega arith)
-        (le-or-lt b (toBits binary64 z)))
+      (λ (i : b ≤ toBits binary64 z). let n = bits-le b (toBits binary64 z) i (p .1) in omega arith)
+      (λ (i : toBits binary64 z < b). let n = bits-le (toBits binary64 z) (b - 1) (omega arith) (omega arith) in omega arith)
+      (le-or-lt b (toBits binary64 z)))
       (le-or-lt (rank z) middle)
 
   pub pattern-after : b < infinityBits → rank (ofBits binary64 b) < rank z → rank (ofBits binary64 (b + 1)) ≤ rank z

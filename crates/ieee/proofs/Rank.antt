@@ -1,14 +1,14 @@
 -- IEEE 754 orders the binary64 values that are no NaN. `rank` counts each of them as a natural number, in units of the smallest positive value, so
 -- that every question of order becomes one of natural numbers, which `omega` answers. Assumes nothing.
 use mathlib.Core.Path.{_≡_, refl, sym, ap, _∙_, subst}
-use mathlib.Core.Bool.{Bool, true, false, not, _&&_, _||_, Bool·beq, cond, true≢false}
+use mathlib.Core.Bool.{Bool, true, false, not, _&&_, _||_, true≢false}
 use Prim.Native.Nat.{ℕ, zero, suc, _+_, _-_, _*_, _/_, _%_, _^_, _≤_, _<_, min}
-use native.Mathlib.Nat.{le-refl, le-trans, le-of-eq, le-of-lt, lt-of-lt-of-le, lt-of-le-of-lt, not-le-of-lt, lt-of-not-le, mul-comm, mul-assoc, mul-left-comm, mul-right-comm, mul-one, one-mul, zero-mul, mul-pos, mul-le-mul-left, mul-le-mul-right, mul-lt-mul-of-pos-right, lt-of-mul-lt-mul-right, le-of-mul-le-mul-right, eq-of-mul-eq-mul-right, sub-add-cancel, add-mul, zero-div, le-div-iff-mul-le, mul-div-cancel}
+use native.Mathlib.Nat.{le-trans, le-of-lt, le-of-eq, lt-of-lt-of-le, lt-of-le-of-lt, not-le-of-lt, mul-comm, mul-assoc, mul-right-comm, mul-one, one-mul, zero-mul, mul-pos, mul-le-mul-right, mul-lt-mul-of-pos-right, lt-of-mul-lt-mul-right, eq-of-mul-eq-mul-right, sub-add-cancel, add-mul, zero-div, le-div-iff-mul-le, mul-div-cancel}
 use native.Mathlib.Omega.{arith}
 use lib.IntN.{ℤ, pos, negsuc}
-use lib.Dec.{T, leb, ltb, eqb, leb→le, le→leb, ltb→lt, lt→ltb, nltb→le, nleb→lt, eqb→eq, eqb-refl, lit<, lit≤}
-use lib.Pow.{pow-add, pow-pos, pow-lt, pow-mono}
-use lib.Ieee.{Float, nan, inf, fin, Format, binary64, prec, emax, low, up, down, below, level, fits, isNan, lt, eq, le, ofInt, round, toUnsigned}
+use lib.Dec.{T, leb, ltb, eqb, leb→le, ltb→lt, lt→ltb, nltb→le, eqb→eq}
+use lib.Pow.{pow-add, pow-pos, pow-lt}
+use lib.Ieee.{Float, nan, inf, fin, binary64, up, down, below, level, fits, isNan, lt, eq, le, ofInt, round, toUnsigned}
 use lib.Ieee.Fits.{and-l, and-r, up-pos, down-pos, ofInt-fits, eq→eqb, and-i}
 use lib.Ieee.Exact.{HasValue}
 use lib.Ieee.Back.{round-whole}
@@ -319,6 +319,28 @@ not-eq-ranks x y p q e = eqb-false (rank x) (rank y) (sym (rank-eq x y p q) ∙ 
 
 pub ranks-eq : (x y : Float) → T (ordered x) → T (ordered y) → rank x ≡ rank y → eq x y ≡ true
 ranks-eq x y p q h = rank-eq x y p q ∙ eq-eqb (rank x) (rank y) h
+
+-- at most, which is below or equal
+pub le-notNan : (x y : Float) → T (le x y) → T (notNan y)
+unfolding le lt eq
+le-notNan nan nan t = t
+le-notNan (inf s) nan t = t
+le-notNan (fin s m e) nan t = t
+le-notNan nan (inf s) t = tt
+le-notNan (inf r) (inf s) t = tt
+le-notNan (fin r m e) (inf s) t = tt
+le-notNan nan (fin s n d) t = tt
+le-notNan (inf r) (fin s n d) t = tt
+le-notNan (fin r m e) (fin s n d) t = tt
+
+pub le-rank : (x y : Float) → T (ordered x) → T (ordered y) → T (le x y) → rank x ≤ rank y
+unfolding le
+le-rank x y f g t = go (lt x y) (eq x y) (rank-lt x y f g) (rank-eq x y f g) t
+  where
+    go : (p q : Bool) → p ≡ ltb (rank x) (rank y) → q ≡ eqb (rank x) (rank y) → T (p || q) → rank x ≤ rank y
+    go true q e h u = le-of-lt (ltb-true (rank x) (rank y) (sym e))
+    go false true e h u = le-of-eq (eqb-true (rank x) (rank y) (sym h))
+    go false false e h u = absurd u
 
 -- a finite value lies above minus infinity
 pub finite-above : (x : Float) → T (ordered x) → T (finite x) → 0 < rank x

@@ -1,22 +1,22 @@
 -- "Edges are compared by value, so -0 equals 0": operations on floats are functions of values. Where the operands differ in the sign of a zero
 -- alone, so do the results, and tests of order answer alike. Assumes nothing.
 use mathlib.Core.Path.{_≡_, refl, sym, ap, _∙_, subst}
-use mathlib.Core.Bool.{Bool, true, false, not, _||_, _&&_, cond, Bool·beq}
+use mathlib.Core.Bool.{Bool, true, false, not, _&&_, cond, Bool·beq}
 use mathlib.Core.Logic.{_⊎_, inl, inr, ⊎-elim}
 use Prim.Native.Nat.{ℕ, zero, suc, _+_, _-_, _*_, _/_, _%_, _^_, _≤_, _<_, compare, Ordering, Ordering·lt, Ordering·eq, Ordering·gt}
 use native.Mathlib.Omega.{arith}
-use native.Mathlib.Nat.{zero-div, zero-mul, mul-zero, zero-mod, zero-add, add-comm, mul-comm, mul-pos, suc-mul}
+use native.Mathlib.Nat.{zero-div, zero-mul, zero-mod, zero-add, add-comm, mul-comm, suc-mul}
 use borrow.Author.Tests.{lt-ltb, le-ltb, ltb-true, ltb-false}
 use lib.IntN.{ℤ, pos, negsuc}
-use lib.Dec.{T, leb, ltb, eqb, isLe, leb·zero, eqb→eq, eqb-refl}
-use lib.Pow.{pow-pos, pow-lt}
-use lib.Ieee.Fits.{and-l, and-r, and-i, neg-fits}
+use lib.Dec.{T, ltb, eqb, isLe, leb·zero, eqb→eq, eqb-refl}
+use lib.Pow.{pow-lt}
+use lib.Ieee.Fits.{and-r, and-i, neg-fits}
 use lib.Ieee.Bits.{ofBits-toBits}
 use lib.Ieee.Scale.{finite}
-use Rattle.ieee.proofs.Rank.{unit, middle, scale, rank, ordered, ordered-fits, notNan, unit-pos, middle-pos, magnitude-lt, scale-pos, rank-eq}
+use Rattle.ieee.proofs.Rank.{middle, scale, rank, ordered, ordered-fits, notNan, middle-pos, magnitude-lt, scale-pos, rank-eq}
 use Rattle.ieee.proofs.Patterns.{pattern, bits-lt, neg-rank}
 use Rattle.lists.proofs.Picks.{le-or-lt}
-use lib.Ieee.{Float, nan, inf, fin, binary64, Format, up, down, unlike, nearest, size, span, climb, units, odd, round, sum, add, sub, mul, div, below, lt, eq, fits, neg, ofBits, toBits}
+use lib.Ieee.{Float, nan, inf, fin, binary64, up, down, unlike, nearest, size, span, climb, units, odd, round, sum, add, sub, mul, div, below, lt, eq, fits, neg, ofBits, toBits}
 
 -- a zero of either sign
 abbrev pub zeroOf : Bool → Float
@@ -308,10 +308,10 @@ neg-ordered x t = and-i (fits binary64 (neg x)) (notNan (neg x)) (neg-fits binar
 pub rank-same : (x y : Float) → T (ordered x) → T (ordered y) → rank x ≡ rank y → Same x y
 rank-same x y s t r = ⊎-elim
     (λ (h : rank x ≤ middle). ⊎-elim
-      (λ (k : middle ≤ rank x). inr (at-middle x s (omega arith), at-middle y t (omega arith)))
-      (λ (k : rank x < middle). let p = neg-rank x s in let q = neg-rank y t in
-        inl (sym (neg-neg x) ∙ ap neg (above-middle (neg x) (neg y) (neg-ordered x s) (neg-ordered y t) (omega arith) (omega arith)) ∙ neg-neg y))
-      (le-or-lt middle (rank x)))
+    (λ (k : middle ≤ rank x). inr (at-middle x s (omega arith), at-middle y t (omega arith)))
+    (λ (k : rank x < middle). let p = neg-rank x s in let q = neg-rank y t in
+    inl (sym (neg-neg x) ∙ ap neg (above-middle (neg x) (neg y) (neg-ordered x s) (neg-ordered y t) (omega arith) (omega arith)) ∙ neg-neg y))
+    (le-or-lt middle (rank x)))
     (λ (h : middle < rank x). inl (above-middle x y s t h r))
     (le-or-lt (rank x) middle)
 

@@ -1,11 +1,10 @@
 -- `floats::next_down` meets its contract: no pattern on the way is a NaN's, and none wraps. Assumes nothing.
-use mathlib.Core.Path.{_≡_, sym, ap, _∙_}
-use mathlib.Core.Bool.{true, false, true≢false}
-use Prim.Native.Nat.{_<_, _≤_, _+_}
+use mathlib.Core.Path.{sym, ap, _∙_}
+use mathlib.Core.Bool.{true≢false}
+use Prim.Native.Nat.{_<_}
 use native.Mathlib.Omega.{arith}
 use lib.Dec.{T}
-use lib.Ieee.{Float, inf, binary64, lt, toBits, neg}
-use lib.Ieee.Scale.{finite}
+use lib.Ieee.{lt}
 use borrow.Author.Needs.{needs}
 use Rattle.ieee.proofs.Rank.{middle, rank, ordered, ordered-of, no-nan, finite-notNan, finite-above, lt-right, eq-left, eq-ranks, not-eq-ranks}
 use Rattle.ieee.proofs.Patterns.{pattern, zero-rank, no-nan-bits}

@@ -1,0 +1,2 @@
+-- Laws of the conversion, for the crates above.
+pub mod Regions

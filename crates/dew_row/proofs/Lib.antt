@@ -1,0 +1,3 @@
+-- The theorem is `dew-row` of module Row.
+pub mod Quotient
+pub mod Row

@@ -1,0 +1,14 @@
+use Rattle.geometry.specs.Affines.{transformRectBbox}
+use borrow.Author.Needs.{needs}
+use Rattle.geometry.proofs.Affine.transform_rect_bbox.Statement.{statement}
+use Rattle.geometry.proofs.Affine.transform_rect_bbox.Tie as tie
+
+returns : tie.Need-returns
+unfolding transformRectBbox
+returns c = cc
+
+pub transform-rect-bbox-spec : {M : Type 1} → statement M
+transform-rect-bbox-spec =
+    tie.close
+    (tie.spec
+    (λ c κs. search needs) (λ c κs. search needs) (λ c κs. search needs) (λ c κs. search needs) (λ c κs. search needs) returns)

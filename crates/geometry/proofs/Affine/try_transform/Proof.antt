@@ -1,0 +1,14 @@
+use Rattle.geometry.specs.Affines.{tryTransform}
+use borrow.Author.Needs.{needs}
+use Rattle.geometry.proofs.Affine.try_transform.Statement.{statement}
+use Rattle.geometry.proofs.Affine.try_transform.Tie as tie
+
+returns : tie.Need-returns
+unfolding tryTransform
+returns c = cc
+
+pub try-transform-spec : {M : Type 1} → statement M
+try-transform-spec =
+    tie.close
+    (tie.spec
+    (λ c κs. search needs) (λ c κs. search needs) (λ c κs. search needs) (λ c κs. search needs) (λ c κs. search needs) returns)

@@ -1,0 +1,12 @@
+use borrow.Author.Needs.{needs}
+use Rattle.geometry.proofs.Rect.union.Statement.{statement}
+use Rattle.geometry.proofs.Rect.union.Tie as tie
+
+returns : tie.Need-returns
+returns c = cc
+
+pub union-spec : {M : Type 1} → statement M
+union-spec =
+    tie.close
+    (tie.spec
+    (λ c κs. search needs) (λ c κs. search needs) (λ c κs. search needs) (λ c κs. search needs) returns)

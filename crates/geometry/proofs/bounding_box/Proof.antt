@@ -1,0 +1,14 @@
+use Rattle.geometry.specs.Affines.{boundingBox}
+use borrow.Author.Needs.{needs}
+use Rattle.geometry.proofs.bounding_box.Statement.{statement}
+use Rattle.geometry.proofs.bounding_box.Tie as tie
+
+returns : tie.Need-returns
+unfolding boundingBox
+returns c = cc
+
+pub bounding-box-spec : {M : Type 1} → statement M
+bounding-box-spec =
+    tie.close
+    (tie.spec
+    (λ c κs. search needs) (λ c κs. search needs) (λ c κs. search needs) (λ c κs. search needs) returns)
