@@ -8,8 +8,7 @@ use lib.Ieee.{Float}
 use lib.Ieee.Fits.{and-i, and-l, and-r}
 use borrow.Author.Tests.{lt-ltb, le-ltb}
 use Rattle.lists.specs.Pick.{pick}
-use Rattle.lists.proofs.Picks.{same-bool, pick-true, pick-false}
-use Rattle.lists.proofs.Bools.{and-true, and-off, and-false}
+use Rattle.lists.proofs.Picks.{pick-true, pick-false}
 use Rattle.ieee.proofs.Rank.{ordered}
 use Rattle.floats.specs.Whole.{floor, ceil}
 use Rattle.floats.proofs.Wholes.{floor-whole, whole-ceil, floor-same, ceil-same}
@@ -20,6 +19,7 @@ use Rattle.geometry.proofs.Values.{SameBox}
 use Rattle.device.specs.declared.Converted.{Converted}
 use Rattle.device.specs.declared.Converted.the-variants.{Region, Nothing}
 use Rattle.device.specs.Region.{between, fromLogical, has}
+use Rattle.lists.proofs.Bools.{and-false, and-off, and-true, same-bool}
 
 -- ---- the answers, by the sides
 module _ (x y r d : ℕ) where

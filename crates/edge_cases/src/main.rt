@@ -6,7 +6,7 @@ use libc::STDOUT_FILENO;
 
 fn print_number(n: u32) {
     io::write_all(STDOUT_FILENO, b" ");
-    io::number::print_decimal(STDOUT_FILENO, n as u64);
+    io::print_decimal(STDOUT_FILENO, n as u64);
 }
 
 // A region by its numbers, or the word nothing.
@@ -50,9 +50,16 @@ fn main() {
         x1: 3.0,
         y1: 5.0,
     };
-    print_converted(b"(3, 3, 3, 5) on 8 by 8:", DeviceRegion::from_logical(narrow, 8, 8));
+    print_converted(
+        b"(3, 3, 3, 5) on 8 by 8:",
+        DeviceRegion::from_logical(narrow, 8, 8),
+    );
     print_rows(b"rows of y 0 to 16:", 0.0, 16.0);
-    print_rows(b"rows of y 0 to just above 16:", 0.0, f64::from_bits(0x4030_0000_0000_0001));
+    print_rows(
+        b"rows of y 0 to the next f64 above 16:",
+        0.0,
+        16.000000000000004,
+    );
     print_rows(b"rows of y 100 to 120:", 100.0, 120.0);
     print_rows(b"rows of y -8 to -2:", -8.0, -2.0);
 }

@@ -8,6 +8,7 @@ use lib.IntN.{pos}
 use lib.Dec.{T, lit≤}
 use lib.Ieee.{Float, nan, inf, fin, binary64, div, neg, fits, lt, ofBits, toUnsigned}
 use lib.Ieee.Scale.{finite}
+use Rattle.lists.proofs.Bools.{holds}
 use Rattle.ieee.proofs.Rank.{unit, unit-pos, middle, scale, rank, ordered, ordered-of, lt-ranks, not-lt-ranks, ranks-lt, lt-right}
 use Rattle.ieee.proofs.Patterns.{zero-rank, bits-ordered}
 use Rattle.floats.specs.Whole.{whole, floor, ceil}
@@ -103,9 +104,6 @@ end-ordered = tt
 unit-le-middle : unit ≤ middle
 unfolding unit middle
 unit-le-middle = lit≤ tt
-
-pub holds : (b : Bool) → b ≡ true → T b
-holds b e = subst T (sym e) tt
 
 pub above-minus-one : (x : Float) → T (ordered x) → lt zero64 x ≡ true → T (lt (fin true 1 (pos 0)) x)
 above-minus-one x t e = let h = positive-rank x t e in holds _ (ranks-lt (fin true 1 (pos 0)) x one-ordered t (omega (arith, minus-one-rank, unit-le-middle)))

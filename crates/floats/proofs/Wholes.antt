@@ -8,10 +8,10 @@ use lib.Dec.{T, ltb, leb, leb→le, le→leb, ltb→lt, lt→ltb, nltb→le, not
 use borrow.Author.Tests.{ltb-false}
 use lib.Ieee.{Float, nan, inf, fin, binary64, up, down, fits, lt}
 use lib.Ieee.Fits.{and-r, down-pos}
-use Rattle.lists.proofs.Picks.{same-bool}
 use Rattle.ieee.proofs.Rank.{middle-is, middle-part, unit, middle, scale, rank, ordered, unit-pos, up-lt, down-lt, magnitude-law, ordered-fits, whole-part, rank-lt, rank-whole, whole-ordered, to-floor}
 use Rattle.ieee.proofs.Values.{Same, same-rank}
 use Rattle.floats.specs.Whole.{whole, floor, ceil}
+use Rattle.lists.proofs.Bools.{same-bool}
 
 -- ---- by the rank
 pub floor-rank : (x : Float) → T (ordered x) → floor x ≡ (rank x - middle) / unit

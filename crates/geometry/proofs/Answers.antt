@@ -3,12 +3,12 @@ use mathlib.Core.Path.{_≡_, sym, _∙_}
 use mathlib.Core.Bool.{true, false, _&&_}
 use lib.Ieee.{eq}
 use Rattle.lists.proofs.Picks.{pick-true, pick-false}
-use Rattle.lists.proofs.Bools.{four-on, off-1, off-2, off-3, off-4}
 use Rattle.geometry.specs.declared.Rect.{Rect}
 use Rattle.geometry.specs.declared.Point.{Point}
 use Rattle.geometry.specs.declared.Transformed.the-variants.{Finite, NotFinite}
 use Rattle.geometry.specs.Boxes.{sameEdges}
 use Rattle.geometry.specs.Affines.{finitePoint, boundingBox, boundFinite}
+use Rattle.lists.proofs.Bools.{four-on, off-1, off-2, off-3, off-4}
 
 -- the first pair of edges that differs
 module _ (a b : Rect) where

@@ -8,20 +8,18 @@ use native.Mathlib.Omega.{arith}
 use lib.Dec.{T}
 use lib.Ieee.{Float, eq}
 use lib.Ieee.Fits.{and-l, and-r}
-use lib.Ieee.Bits.{is-true}
-use Rattle.lists.proofs.Picks.{le-or-lt, same-bool}
-use Rattle.lists.proofs.Bools.{not-both, four-on}
+use Rattle.lists.proofs.Picks.{le-or-lt}
 use Rattle.ieee.proofs.Rank.{rank, ordered, eq-ranks, ranks-eq, whole-ordered}
 use Rattle.floats.specs.Order.{larger, smaller}
 use Rattle.floats.specs.Whole.{whole}
 use Rattle.floats.proofs.Orders.{larger-rank, smaller-rank, larger-ordered, smaller-ordered}
-use Rattle.floats.proofs.Tests.{holds}
 use Rattle.geometry.specs.declared.Rect.{Rect}
 use Rattle.geometry.specs.Boxes.{intersect, positiveArea, sameEdges}
 use Rattle.geometry.specs.Parts.{topPart, bottomPart, leftPart, rightPart}
 use Rattle.geometry.specs.Pixels.{meets, touches, part}
 use Rattle.geometry.proofs.Edges.{Ordered, intersect-edges, area-ranks, ranks-area, low-rank, high-rank}
 use Rattle.geometry.proofs.Meets.{Overlaps, whole-step, meets-ranks, ranks-meets, touches-area, touches-meets, area-meets}
+use Rattle.lists.proofs.Bools.{four-on, holds, is-true, not-both, same-bool}
 
 -- ---- one edge: a low edge a and that of the overlap o, cut at the near side P of the pixel
 low-alike : (a o P : ℕ) → a ≤ o → (a < o → P < o → ⊥) → max a P ≡ max o P

@@ -6,15 +6,13 @@ use native.Mathlib.Omega.{arith}
 use lib.Dec.{T}
 use lib.Ieee.{Float, lt}
 use lib.Ieee.Fits.{and-l, and-r}
-use lib.Ieee.Bits.{is-true}
 use Rattle.ieee.proofs.Rank.{rank, ordered, lt-ranks, ranks-lt}
 use Rattle.floats.specs.Order.{larger, smaller}
 use Rattle.floats.proofs.Orders.{larger-either, smaller-either, larger-rank, smaller-rank, larger-ordered, smaller-ordered, larger-first, larger-second, smaller-first, smaller-second}
-use Rattle.floats.proofs.Tests.{holds}
-use Rattle.lists.proofs.Bools.{and-true}
 use Rattle.lists.proofs.Picks.{le-or-lt}
 use Rattle.geometry.specs.declared.Rect.{Rect}
 use Rattle.geometry.specs.Boxes.{intersect, union, positiveArea}
+use Rattle.lists.proofs.Bools.{and-true, holds, is-true}
 
 -- a property of each edge
 pub record Edges (P : Float → Type 0) (b : Rect) : Type 0 where

@@ -7,16 +7,14 @@ use native.Mathlib.Omega.{arith}
 use lib.Dec.{T}
 use lib.Ieee.{Float, lt}
 use lib.Ieee.Fits.{and-l, and-r, and-i}
-use lib.Ieee.Bits.{is-true}
-use Rattle.lists.proofs.Bools.{and-true, is-false, not-both}
 use Rattle.ieee.proofs.Rank.{unit, unit-pos, rank, ordered, lt-ranks, ranks-lt, rank-whole, whole-ordered}
 use Rattle.floats.specs.Whole.{whole}
 use Rattle.floats.proofs.Orders.{larger-rank, smaller-rank}
-use Rattle.floats.proofs.Tests.{holds}
 use Rattle.geometry.specs.declared.Rect.{Rect}
 use Rattle.geometry.specs.Boxes.{union, positiveArea}
 use Rattle.geometry.specs.Pixels.{spans, meets, touches}
 use Rattle.geometry.proofs.Edges.{Ordered, union-edges}
+use Rattle.lists.proofs.Bools.{and-true, holds, is-false, is-true, not-both}
 
 -- one whole number up is a higher rank
 pub whole-step : (n : ℕ) → n < 2 ^ 53 → rank (whole n) < rank (whole (n + 1))

@@ -10,7 +10,6 @@ use Rattle.ieee.proofs.Values.{Same, same-value, same-finite, add-same, sub-sam
 use Rattle.floats.specs.Order.{larger, smaller}
 use Rattle.floats.specs.Whole.{whole}
 use Rattle.floats.proofs.Orders.{larger-same, smaller-same}
-use Rattle.floats.proofs.Tests.{holds}
 use Rattle.lists.specs.Pick.{pick}
 use Rattle.geometry.specs.declared.Rect.{Rect}
 use Rattle.geometry.specs.declared.Affine.{Affine}
@@ -21,6 +20,7 @@ use Rattle.geometry.specs.Boxes.{intersect, union, inflate, positiveArea
 use Rattle.geometry.specs.Affines.{_⊕_, _⊗_, transformPoint, boundingBox, transformRectBbox, finitePoint, boundFinite, tryTransform}
 use Rattle.geometry.specs.Pixels.{spans, meets, touches}
 use Rattle.geometry.proofs.Edges.{Ordered}
+use Rattle.lists.proofs.Bools.{holds}
 
 pub record SameBox (a b : Rect) : Type 0 where
   pub x0 : Same (a .x0) (b .x0)

@@ -16,8 +16,9 @@ use lib.Ieee.Fits.{and-i, and-r, down-pos}
 use lib.Ieee.Exact.{HasValue, odd-sign}
 use lib.Ieee.Scale.{finite}
 use lib.Ieee.Bits.{ofBits-toBits, ofBits-fits, toBits-lt, nanBits-above}
-use Rattle.lists.proofs.Picks.{same-bool, le-or-lt}
+use Rattle.lists.proofs.Picks.{le-or-lt}
 use Rattle.ieee.proofs.Rank.{unit, middle, scale, rank, ordered, ordered-fits, notNan, finite-notNan, magnitude-law, magnitude-lt, middle-pos}
+use Rattle.lists.proofs.Bools.{same-bool}
 
 -- the pattern of infinity: the last that is no NaN's, the sign apart
 abbrev pub infinityBits : ℕ

@@ -15,7 +15,7 @@ use lib.Ieee.Back.{round-whole}
 use lib.Ieee.Nearest.{div-same}
 use lib.Ieee.Scale.{finite}
 use borrow.Author.Tests.{ltb-true, ltb-false, lt-ltb, le-ltb, eq-eqb, ne-eqb, eqb-true, eqb-false}
-use Rattle.lists.proofs.Picks.{same-bool}
+use Rattle.lists.proofs.Bools.{same-bool}
 
 -- A whole number p is p * unit units; every finite magnitude is below `middle` units. Both stay shut: as numerals they would swamp `omega`.
 unfoldable pub unit : ℕ

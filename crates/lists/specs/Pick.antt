@@ -1,7 +1,6 @@
--- Choosing by a test. Assumes nothing.
+-- To believe here: `pick` chooses its first value where the test holds and its second where it does not.
 use mathlib.Core.Bool.{Bool, true, false}
 
--- the first where the test holds, else the second
 abbrev pub pick : {A : Type 0} → Bool → A → A → A
 pick true a b = a
 pick false a b = b

@@ -1,1 +1,2 @@
+-- The proof of the starred cases.
 pub mod Starred

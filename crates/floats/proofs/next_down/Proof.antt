@@ -8,10 +8,11 @@ use lib.Ieee.{lt}
 use borrow.Author.Needs.{needs}
 use Rattle.ieee.proofs.Rank.{middle, rank, ordered, ordered-of, no-nan, finite-notNan, finite-above, lt-right, eq-left, eq-ranks, not-eq-ranks}
 use Rattle.ieee.proofs.Patterns.{pattern, zero-rank, no-nan-bits}
-use Rattle.floats.proofs.Tests.{zero64, zero-ordered, positive-ordered, positive-rank, not-positive-rank, infinity-positive, holds}
+use Rattle.floats.proofs.Tests.{zero64, zero-ordered, positive-ordered, positive-rank, not-positive-rank, infinity-positive}
 use Rattle.floats.proofs.Nexts.{Negative, negative, at-zero, above-zero, below-zero, none-below}
 use Rattle.floats.proofs.next_down.Statement.{statement}
 use Rattle.floats.proofs.next_down.Tie as tie
+use Rattle.lists.proofs.Bools.{holds}
 
 -- ---- what the tests tell
 -- neither a zero nor above it, and finite: below zero

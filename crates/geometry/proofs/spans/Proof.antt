@@ -1,10 +1,10 @@
-use Rattle.lists.proofs.Bools.{and-on, and-off}
 use Rattle.geometry.specs.Pixels.{spans}
 use lib.Ieee.{lt}
 use mathlib.Core.Path.{sym, ap, _∙_}
 use borrow.Author.Needs.{needs}
 use Rattle.geometry.proofs.spans.Statement.{statement}
 use Rattle.geometry.proofs.spans.Tie as tie
+use Rattle.lists.proofs.Bools.{and-off, and-on}
 
 returns : tie.Need-returns
 unfolding spans

@@ -1,7 +1,7 @@
-use Rattle.lists.proofs.Bools.{and-on, and-off}
 use Rattle.geometry.specs.Boxes.{positiveArea}
 use Rattle.geometry.proofs.Rect.positive_area.Statement.{statement}
 use Rattle.geometry.proofs.Rect.positive_area.Tie as tie
+use Rattle.lists.proofs.Bools.{and-off, and-on}
 
 returns : tie.Need-returns
 unfolding positiveArea

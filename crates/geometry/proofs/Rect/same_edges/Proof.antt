@@ -1,8 +1,8 @@
 use Rattle.geometry.proofs.Answers.{differ-x0, differ-y0, differ-x1}
 use Rattle.geometry.specs.Boxes.{sameEdges}
-use Rattle.lists.proofs.Bools.{four-on}
 use Rattle.geometry.proofs.Rect.same_edges.Statement.{statement}
 use Rattle.geometry.proofs.Rect.same_edges.Tie as tie
+use Rattle.lists.proofs.Bools.{four-on}
 
 returns : tie.Need-returns
 unfolding sameEdges

@@ -1,0 +1,5 @@
+-- The laws that other crates may cite.
+pub mod Sorts
+pub mod Ascents
+pub mod Merges
+mod Examples

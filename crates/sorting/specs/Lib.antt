@@ -1,0 +1,2 @@
+-- What the contracts and laws of `sorting` speak of.
+pub mod Sort

@@ -1,0 +1,2 @@
+-- What document 01 marks with a star: claims about the definitions of the crates below.
+pub mod Starred
