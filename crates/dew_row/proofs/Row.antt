@@ -20,7 +20,7 @@ use Rattle.floats.specs.Order.{larger, smaller}
 use Rattle.floats.specs.Whole.{whole, floor}
 use Rattle.floats.proofs.Orders.{larger-either, larger-first, smaller-first, smaller-second}
 use Rattle.floats.proofs.Tests.{zero-ordered}
-use Rattle.geometry.specs.Rows.{rowOf}
+use Rattle.rows.specs.Rows.{rowOf}
 use Rattle.geometry.proofs.Meets.{whole-step}
 use Rattle.dew_row.specs.DewRow.{dewRow}
 use Rattle.dew_row.proofs.Quotient.{quotient}

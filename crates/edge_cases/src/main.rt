@@ -28,8 +28,8 @@ fn print_converted(name: &[u8], answer: Converted) {
 
 fn print_rows(name: &[u8], y0: f64, y1: f64) {
     io::write_all(STDOUT_FILENO, name);
-    print_number(geometry::row_of(y0, 16, 3));
-    print_number(geometry::final_row(y1, 16, 3));
+    print_number(rows::row_of(y0, 16, 3));
+    print_number(rows::final_row(y1, 16, 3));
     io::write_all(STDOUT_FILENO, b"\n");
 }
 

@@ -1,6 +1,6 @@
 -- What the tests in the code of this crate show of a value. Assumes nothing.
-use mathlib.Core.Path.{_≡_, refl, sym, ap, _∙_, subst}
-use mathlib.Core.Bool.{Bool, true, false, true≢false}
+use mathlib.Core.Path.{_≡_, refl, sym, ap, _∙_}
+use mathlib.Core.Bool.{true, false, true≢false}
 use Prim.Native.Nat.{_+_, _-_, _*_, _^_, _≤_, _<_, min}
 use native.Mathlib.Nat.{one-mul}
 use native.Mathlib.Omega.{arith}

@@ -3,6 +3,4 @@ pub mod Answers
 pub mod Edges
 pub mod Meets
 pub mod Cuts
-pub mod Rows
 pub mod Values
-pub mod Corners

@@ -5,7 +5,7 @@ use Prim.Native.Nat.{ℕ, _+_}
 use lib.Ieee.{Float, binary64, neg, div, ofBits, toBits}
 use Rattle.geometry.specs.declared.Rect.{Rect}
 use Rattle.floats.specs.Whole.{whole}
-use Rattle.geometry.specs.Rows.{rowCount, rowOf, finalRow}
+use Rattle.rows.specs.Rows.{rowCount, rowOf, finalRow}
 use Rattle.device.specs.declared.Converted.the-variants.{Region, Nothing}
 use Rattle.device.specs.Region.{fromLogical}
 

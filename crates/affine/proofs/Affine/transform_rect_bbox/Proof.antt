@@ -1,7 +1,7 @@
-use Rattle.geometry.specs.Affines.{transformRectBbox}
+use Rattle.affine.specs.Affines.{transformRectBbox}
 use borrow.Author.Needs.{needs}
-use Rattle.geometry.proofs.Affine.transform_rect_bbox.Statement.{statement}
-use Rattle.geometry.proofs.Affine.transform_rect_bbox.Tie as tie
+use Rattle.affine.proofs.Affine.transform_rect_bbox.Statement.{statement}
+use Rattle.affine.proofs.Affine.transform_rect_bbox.Tie as tie
 
 returns : tie.Need-returns
 unfolding transformRectBbox

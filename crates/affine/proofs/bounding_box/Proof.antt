@@ -1,7 +1,7 @@
-use Rattle.geometry.specs.Affines.{boundingBox}
+use Rattle.affine.specs.Affines.{boundingBox}
 use borrow.Author.Needs.{needs}
-use Rattle.geometry.proofs.bounding_box.Statement.{statement}
-use Rattle.geometry.proofs.bounding_box.Tie as tie
+use Rattle.affine.proofs.bounding_box.Statement.{statement}
+use Rattle.affine.proofs.bounding_box.Tie as tie
 
 returns : tie.Need-returns
 unfolding boundingBox

@@ -1,7 +1,7 @@
-use Rattle.geometry.specs.Affines.{tryTransform}
+use Rattle.affine.specs.Affines.{tryTransform}
 use borrow.Author.Needs.{needs}
-use Rattle.geometry.proofs.Affine.try_transform.Statement.{statement}
-use Rattle.geometry.proofs.Affine.try_transform.Tie as tie
+use Rattle.affine.proofs.Affine.try_transform.Statement.{statement}
+use Rattle.affine.proofs.Affine.try_transform.Tie as tie
 
 returns : tie.Need-returns
 unfolding tryTransform

@@ -9,12 +9,12 @@ use lib.Ieee.Fits.{and-l, and-r}
 use lib.Ieee.Scale.{finite}
 use Rattle.lists.specs.Pick.{pick}
 use Rattle.floats.proofs.Orders.{larger-either, smaller-either}
 use Rattle.geometry.specs.declared.Rect.{Rect}
-use Rattle.geometry.specs.declared.Affine.{Affine}
-use Rattle.geometry.specs.declared.Point.{Point}
-use Rattle.geometry.specs.declared.Transformed.the-variants.{Finite, NotFinite}
-use Rattle.geometry.specs.Affines.{boundingBox, transformRectBbox, finitePoint, boundFinite, tryTransform}
+use Rattle.affine.specs.declared.Affine.{Affine}
+use Rattle.affine.specs.declared.Point.{Point}
+use Rattle.affine.specs.declared.Transformed.the-variants.{Finite, NotFinite}
+use Rattle.affine.specs.Affines.{boundingBox, transformRectBbox, finitePoint, boundFinite, tryTransform}
 use Rattle.geometry.proofs.Edges.{Edges}
 
 -- an edge of the least box over four points is a coordinate of one of them
 module _ (P : Float → Type 0) (p q r s : Point) (px : P (p .x)) (py : P (p .y)) (qx : P (q .x)) (qy : P (q .y)) (rx : P (r .x)) (ry : P (r .y)) (sx : P (s .x)) (sy : P (s .y)) where

@@ -1,12 +1,12 @@
-use Rattle.geometry.proofs.Rows.{row-cut, no-band}
-use Rattle.geometry.specs.Rows.{rowOf}
+use Rattle.rows.proofs.Laws.{row-cut, no-band}
+use Rattle.rows.specs.Rows.{rowOf}
 use Rattle.floats.specs.Whole.{floor}
 use native.Mathlib.Omega.{arith}
 use Prim.Native.Nat.{_-_, _/_, min}
 use mathlib.Core.Path.{_≡_, sym, ap, _∙_}
 use borrow.Author.Needs.{needs}
-use Rattle.geometry.proofs.row_of.Statement.{statement}
-use Rattle.geometry.proofs.row_of.Tie as tie
+use Rattle.rows.proofs.row_of.Statement.{statement}
+use Rattle.rows.proofs.row_of.Tie as tie
 
 -- what the code divides, cut at the last row, is the row
 whole-rows : (c : tie.After-floor-u64) → let s = c .before .before .before .args in min (c .floor-u64 .result / s .band-height) (s .row-count - 1) ≡ rowOf (s .band-height) (s .row-count) (s .y)

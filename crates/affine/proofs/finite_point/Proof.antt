@@ -1,8 +1,8 @@
-use Rattle.geometry.specs.Affines.{finitePoint}
+use Rattle.affine.specs.Affines.{finitePoint}
 use mathlib.Core.Path.{sym, _∙_}
 use borrow.Author.Needs.{needs}
-use Rattle.geometry.proofs.finite_point.Statement.{statement}
-use Rattle.geometry.proofs.finite_point.Tie as tie
+use Rattle.affine.proofs.finite_point.Statement.{statement}
+use Rattle.affine.proofs.finite_point.Tie as tie
 
 returns : tie.Need-returns
 unfolding finitePoint

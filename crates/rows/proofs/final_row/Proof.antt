@@ -1,8 +1,8 @@
-use Rattle.geometry.specs.Rows.{rowOf}
+use Rattle.rows.specs.Rows.{rowOf}
 use mathlib.Core.Path.{ap, _∙_}
 use borrow.Author.Needs.{needs}
-use Rattle.geometry.proofs.final_row.Statement.{statement}
-use Rattle.geometry.proofs.final_row.Tie as tie
+use Rattle.rows.proofs.final_row.Statement.{statement}
+use Rattle.rows.proofs.final_row.Tie as tie
 
 returns : tie.Need-returns
 returns c = c .row-of .ensures ∙ ap (λ y. rowOf (c .before .before .args .band-height) (c .before .before .args .row-count) y) (c .before .next-down .ensures)

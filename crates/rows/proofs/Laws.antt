@@ -16,7 +16,7 @@ use Rattle.floats.specs.Whole.{whole, floor}
 use Rattle.floats.specs.Next.{nextDown}
 use Rattle.floats.proofs.Wholes.{floor-at-most, floor-at-least, floor-same}
 use Rattle.floats.proofs.Nexts.{next-down}
-use Rattle.geometry.specs.Rows.{rowCount, rowOf, finalRow}
+use Rattle.rows.specs.Rows.{rowCount, rowOf, finalRow}
 
 -- "divided by band height exactly": dividing the whole part is dividing the number
 pub row-exact : (m : ℕ) (e : ℤ) (band : ℕ) → floor (fin false m e) / band ≡ m * up e / (down e * band)

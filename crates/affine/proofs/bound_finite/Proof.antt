@@ -1,9 +1,9 @@
-use Rattle.geometry.proofs.Answers.{bound-yes, bound-no-1, bound-no-2, bound-no-3, bound-no-4}
-use Rattle.geometry.specs.declared.Transformed.the-variants.{Finite}
+use Rattle.affine.proofs.Answers.{bound-yes, bound-no-1, bound-no-2, bound-no-3, bound-no-4}
+use Rattle.affine.specs.declared.Transformed.the-variants.{Finite}
 use mathlib.Core.Path.{sym, ap, _∙_}
 use borrow.Author.Needs.{needs}
-use Rattle.geometry.proofs.bound_finite.Statement.{statement}
-use Rattle.geometry.proofs.bound_finite.Tie as tie
+use Rattle.affine.proofs.bound_finite.Statement.{statement}
+use Rattle.affine.proofs.bound_finite.Tie as tie
 
 returns : tie.Need-returns
 returns c = ap Finite (c .bounding-box .ensures) ∙ bound-yes _ _ _ _ (sym (c .before .before .before .before .before .before .before .before .finite-point .ensures) ∙ c .before .before .before .before .before .before .before .if1 .taken) (sym (c .before .before .before .before .before .before .finite-point2 .ensures) ∙ c .before .before .before .before .before .if2 .taken) (sym (c .before .before .before .before .finite-point3 .ensures) ∙ c .before .before .before .if3 .taken) (sym (c .before .before .finite-point4 .ensures) ∙ c .before .if4 .taken)

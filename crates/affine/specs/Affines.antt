@@ -4,11 +4,11 @@ use lib.Ieee.{Float, binary64, add, mul}
 use lib.Ieee.Scale.{finite}
 use Rattle.lists.specs.Pick.{pick}
 use Rattle.floats.specs.Order.{larger, smaller}
 use Rattle.geometry.specs.declared.Rect.{Rect}
-use Rattle.geometry.specs.declared.Affine.{Affine}
-use Rattle.geometry.specs.declared.Point.{Point}
-use Rattle.geometry.specs.declared.Transformed.{Transformed}
-use Rattle.geometry.specs.declared.Transformed.the-variants.{Finite, NotFinite}
+use Rattle.affine.specs.declared.Affine.{Affine}
+use Rattle.affine.specs.declared.Point.{Point}
+use Rattle.affine.specs.declared.Transformed.{Transformed}
+use Rattle.affine.specs.declared.Transformed.the-variants.{Finite, NotFinite}
 
 infixl 60 _⊕_
 infixl 70 _⊗_

@@ -1,6 +1,6 @@
 use borrow.Author.Needs.{needs}
-use Rattle.geometry.proofs.least.Statement.{statement}
-use Rattle.geometry.proofs.least.Tie as tie
+use Rattle.affine.proofs.least.Statement.{statement}
+use Rattle.affine.proofs.least.Tie as tie
 
 returns : tie.Need-returns
 returns c = cc

@@ -1,0 +1,112 @@
+// Affine maps of boxes over f64: kurbo's, with document 01's meanings. Every function has an answer for
+// every f64.
+ghost use mathlib.Core.Path.{_≡_};
+ghost use Rattle.affine.specs.Affines as Affines;
+use geometry::Rect;
+
+pub struct Point {
+    pub x: f64,
+    pub y: f64,
+}
+
+// The affine map of (x, y) to (a x + c y + e, b x + d y + f).
+pub struct Affine {
+    pub a: f64,
+    pub b: f64,
+    pub c: f64,
+    pub d: f64,
+    pub e: f64,
+    pub f: f64,
+}
+
+// A transformed box, or word that one of its corners is infinite or a NaN.
+pub enum Transformed {
+    Finite(Rect),
+    NotFinite,
+}
+
+fn least(p: f64, q: f64, r: f64, s: f64) -> f64
+    ensures { λ z. ⌜ z ≡ Affines.least p q r s ⌝ }
+{
+    floats::smaller(floats::smaller(floats::smaller(p, q), r), s)
+}
+
+fn greatest(p: f64, q: f64, r: f64, s: f64) -> f64
+    ensures { λ z. ⌜ z ≡ Affines.greatest p q r s ⌝ }
+{
+    floats::larger(floats::larger(floats::larger(p, q), r), s)
+}
+
+// The least box over four points.
+fn bounding_box(p: Point, q: Point, r: Point, s: Point) -> Rect
+    ensures { λ z. ⌜ z ≡ Affines.boundingBox p q r s ⌝ }
+{
+    Rect {
+        x0: least(p.x, q.x, r.x, s.x),
+        y0: least(p.y, q.y, r.y, s.y),
+        x1: greatest(p.x, q.x, r.x, s.x),
+        y1: greatest(p.y, q.y, r.y, s.y),
+    }
+}
+
+fn finite_point(p: Point) -> bool
+    ensures { λ z. ⌜ z ≡ Affines.finitePoint p ⌝ }
+{
+    if floats::is_finite(p.x) {
+        floats::is_finite(p.y)
+    } else {
+        false
+    }
+}
+
+// The least box over four points, unless one is not finite. The points are tested and not the box,
+// since the larger and the smaller of two can hide a NaN.
+fn bound_finite(p: Point, q: Point, r: Point, s: Point) -> Transformed
+    ensures { λ z. ⌜ z ≡ Affines.boundFinite p q r s ⌝ }
+{
+    if finite_point(p) {
+        if finite_point(q) {
+            if finite_point(r) {
+                if finite_point(s) {
+                    return Transformed::Finite(bounding_box(p, q, r, s));
+                }
+            }
+        }
+    }
+    Transformed::NotFinite
+}
+
+impl Affine {
+    pub fn transform_point(self, x: f64, y: f64) -> Point
+        ensures { λ z. ⌜ z ≡ Affines.transformPoint self x y ⌝ }
+    {
+        Point {
+            x: self.a * x + self.c * y + self.e,
+            y: self.b * x + self.d * y + self.f,
+        }
+    }
+
+    // The least box over the four transformed corners.
+    pub fn transform_rect_bbox(self, rect: Rect) -> Rect
+        ensures { λ z. ⌜ z ≡ Affines.transformRectBbox self rect ⌝ }
+    {
+        bounding_box(
+            self.transform_point(rect.x0, rect.y0),
+            self.transform_point(rect.x1, rect.y0),
+            self.transform_point(rect.x0, rect.y1),
+            self.transform_point(rect.x1, rect.y1),
+        )
+    }
+
+    // The same, with an answer of its own where a corner is not finite.
+    pub fn try_transform(self, rect: Rect) -> Transformed
+        ensures { λ z. ⌜ z ≡ Affines.tryTransform self rect ⌝ }
+    {
+        bound_finite(
+            self.transform_point(rect.x0, rect.y0),
+            self.transform_point(rect.x1, rect.y0),
+            self.transform_point(rect.x0, rect.y1),
+            self.transform_point(rect.x1, rect.y1),
+        )
+    }
+}

@@ -1,0 +1,2 @@
+-- What a reader must believe of band rows: document 01's "BandIndex".
+pub mod Rows
