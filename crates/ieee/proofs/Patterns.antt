@@ -4,21 +4,21 @@ use mathlib.Core.Path.{_≡_, refl, sym, ap, _∙_, subst}
 use mathlib.Core.Bool.{Bool, true, false, not, cond, true≢false}
 use mathlib.Core.Logic.{_⊎_, inl, inr, ⊎-elim}
 use Prim.Native.Nat.{ℕ, zero, suc, _+_, _-_, _*_, _/_, _%_, _^_, _≤_, _<_}
-use native.Mathlib.Nat.{le-trans, le-of-eq, le-of-lt, lt-of-lt-of-le, eq-or-lt-of-le, mul-one, mul-le-mul-left, mul-le-mul-right, mul-lt-mul-of-pos-right, eq-of-mul-eq-mul-right, pow-suc, lt-of-not-le}
+use native.Mathlib.Nat.{le-trans, le-of-eq, le-of-lt, lt-of-lt-of-le, eq-or-lt-of-le, mul-one, mul-comm, mul-pos, mul-le-mul-left, mul-le-mul-right, mul-lt-mul-of-pos-right, eq-of-mul-eq-mul-right, pow-suc, div-lt-iff-lt-mul, le-div-iff-mul-le, mod-lt}
 use native.Mathlib.Omega.{arith}
 use lib.IntN.{ℤ}
-use lib.Dec.{T, ltb, leb, eqb, ltb→lt, lt→ltb, lit<}
+use lib.Dec.{T, ltb, leb, eqb, ltb→lt, lit<}
 use lib.Pow.{pow-pos, pow-mono}
 use lib.Arith.{le→nltb}
-use borrow.Author.Tests.{lt-leb, le-leb, ne-eqb}
-use lib.Ieee.{Float, nan, inf, fin, binary64, down, up, odd, neg, fits, ofBits, ofFields, toBits, nanBits}
+use borrow.Author.Tests.{lt-leb, le-leb, lt-ltb, le-ltb, eq-eqb, ne-eqb}
+use lib.Ieee.{Float, nan, inf, fin, Format, binary32, binary64, prec, low, hid, ones, top, down, up, odd, neg, fits, ofBits, ofFields, toBits, nanBits}
 use lib.Ieee.Fits.{and-i, and-r, down-pos}
 use lib.Ieee.Exact.{HasValue, odd-sign}
 use lib.Ieee.Scale.{finite}
 use lib.Ieee.Bits.{ofBits-toBits, ofBits-fits, toBits-lt, nanBits-above}
 use Rattle.lists.proofs.Picks.{le-or-lt}
+use Rattle.lists.proofs.Bools.{is-true, is-false}
 use Rattle.ieee.proofs.Rank.{unit, middle, scale, rank, ordered, ordered-fits, notNan, finite-notNan, magnitude-law, magnitude-lt, middle-pos}
-use Rattle.lists.proofs.Bools.{same-bool}
 
 -- the pattern of infinity: the last that is no NaN's, the sign apart
 abbrev pub infinityBits : ℕ
@@ -78,39 +78,54 @@ unfolding odd
 odd-finite d s zero k l = tt
 odd-finite d s (suc q) k l = tt
 
-fields-finite : (s : Bool) (x t : ℕ) → x < 2047 → T (finite (ofFields binary64 s x t))
+-- for either format: the exponent's field is all ones in an infinity and a NaN, and in no finite value
+fields-finite : (f : Format) (s : Bool) (x t : ℕ) → x < ones f → T (finite (ofFields f s x t))
 unfolding ofFields
-fields-finite s zero t h = odd-finite 53 s t 0 1074
-fields-finite s (suc x) t h = go (eqb (suc x) 2047) (ne-eqb (suc x) 2047 (omega arith))
+fields-finite f s zero t h = odd-finite (prec f) s t 0 (low f)
+fields-finite f s (suc x) t h = go (eqb (suc x) (ones f)) (ne-eqb (suc x) (ones f) (λ e. omega arith))
   where
-    go : (b : Bool) → b ≡ false → T (finite (cond b (cond (eqb t 0) (inf s) nan) (odd 53 s (2 ^ 52 + t) x 1074)))
+    go : (b : Bool) → b ≡ false → T (finite (cond b (cond (eqb t 0) (inf s) nan) (odd (prec f) s (hid f + t) x (low f))))
     go true e = absurd (true≢false e)
-    go false e = odd-finite 53 s (2 ^ 52 + t) x 1074
+    go false e = odd-finite (prec f) s (hid f + t) x (low f)
 
-fields-infinite : (s : Bool) (t : ℕ) → T (finite (ofFields binary64 s 2047 t)) → ⊥
+fields-infinite : (f : Format) (s : Bool) (x t : ℕ) → x ≡ ones f → T (finite (ofFields f s x t)) → ⊥
 unfolding ofFields
-fields-infinite s t h = go (eqb t 0) h
+fields-infinite binary32 s zero t e h = omega arith
+fields-infinite binary64 s zero t e h = omega arith
+fields-infinite f s (suc x) t e h = go (eqb (suc x) (ones f)) (eqb t 0) (eq-eqb (suc x) (ones f) e) h
   where
-    go : (b : Bool) → T (finite (cond b (inf s) nan)) → ⊥
-    go true t = t
-    go false t = t
-
-bits-infinite : (b : ℕ) → infinityBits ≤ b % 2 ^ 63 → T (finite (ofBits binary64 b)) → ⊥
-unfolding ofBits
-bits-infinite b h t = let e : b % 2 ^ 63 / 2 ^ 52 ≡ 2047 = omega arith in fields-infinite (leb (2 ^ 63) b) (b % 2 ^ 52) (subst (λ (x : ℕ). T (finite (ofFields binary64 (leb (2 ^ 63) b) x (b % 2 ^ 52)))) e t)
+    go : (a b : Bool) → a ≡ true → T (finite (cond a (cond b (inf s) nan) (odd (prec f) s (hid f + t) x (low f)))) → ⊥
+    go true true e k = k
+    go true false e k = k
+    go false b e k = true≢false (sym e)
 
 -- a pattern is a finite value's where the exponent's field is not all ones
-pub finite-bits : (b : ℕ) → finite (ofBits binary64 b) ≡ ltb (b % 2 ^ 63) infinityBits
-finite-bits b = same-bool (finite (ofBits binary64 b)) (ltb (b % 2 ^ 63) infinityBits) (λ t. lt→ltb _ _ (lt-of-not-le (λ k. bits-infinite b k t))) (λ t. small (ltb→lt (b % 2 ^ 63) infinityBits t))
+pub finite-pattern : (f : Format) (b : ℕ) → finite (ofBits f b) ≡ ltb (b % top f) (ones f * hid f)
+unfolding ofBits
+finite-pattern f b = ⊎-elim
+    (λ (h : ones f * hid f ≤ b % top f). is-false (finite (ofBits f b)) (λ t. fields-infinite f (leb (top f) b) (b % top f / hid f) (b % hid f) (all-ones h) t) ∙ sym (le-ltb (b % top f) (ones f * hid f) h))
+    (λ (h : b % top f < ones f * hid f). is-true (finite (ofBits f b)) (fields-finite f (leb (top f) b) (b % top f / hid f) (b % hid f) (div-lt-iff-lt-mul (pow-pos (prec f - 1)) .1 h)) ∙ sym (lt-ltb (b % top f) (ones f * hid f) h))
+    (le-or-lt (ones f * hid f) (b % top f))
   where
-    small : b % 2 ^ 63 < infinityBits → T (finite (ofBits binary64 b))
-    small h = unfold ofBits in fields-finite (leb (2 ^ 63) b) (b % 2 ^ 63 / 2 ^ 52) (b % 2 ^ 52) (omega arith)
+    all-ones : ones f * hid f ≤ b % top f → b % top f / hid f ≡ ones f
+    all-ones h =
+        let k : ones f ≤ b % top f / hid f = le-div-iff-mul-le (pow-pos (prec f - 1)) .1 h in
+        let l : b % top f / hid f < suc (ones f) = div-lt-iff-lt-mul (pow-pos (prec f - 1)) .1 (subst (λ (a : ℕ). b % top f < a) (mul-comm (hid f) (suc (ones f))) (mod-lt b (mul-pos (pow-pos (prec f - 1)) (omega arith)))) in
+        omega arith
+
+pub finite-no-nan : (f : Format) (b : ℕ) → T (finite (ofBits f b)) → T (not (nanBits f b))
+finite-no-nan f b t =
+    let h = ltb→lt (b % top f) (ones f * hid f) (subst T (finite-pattern f b) t) in
+    subst (λ (a : Bool). T (not a)) (sym (nanBits-above f b)) (le→nltb (ones f * hid f) (b % top f) (le-of-lt h))
+
+pub finite-bits : (b : ℕ) → finite (ofBits binary64 b) ≡ ltb (b % 2 ^ 63) infinityBits
+finite-bits b = finite-pattern binary64 b
 
 pub no-nan-bits : (n : ℕ) → n % 2 ^ 63 ≤ infinityBits → T (not (nanBits binary64 n))
 no-nan-bits n h = subst (λ (b : Bool). T (not b)) (sym (nanBits-above binary64 n)) (le→nltb infinityBits (n % 2 ^ 63) h)
 
 pub bits-ordered : (b : ℕ) → b ≤ infinityBits → T (ordered (ofBits binary64 b))
-bits-ordered b h = and-i (fits binary64 (ofBits binary64 b)) (notNan (ofBits binary64 b)) (ofBits-fits binary64 b) (elim (eq-or-lt-of-le h) [ inl e ↦ subst (λ (n : ℕ). T (notNan (ofBits binary64 n))) (sym e) (subst (λ (z : Float). T (notNan z)) (sym infinity-is) tt) | inr l ↦ finite-notNan (ofBits binary64 b) (subst (λ (z : Float). T (finite z)) (sym (read b (omega arith))) (fields-finite false (b / 2 ^ 52) (b % 2 ^ 52) (omega arith))) ])
+bits-ordered b h = and-i (fits binary64 (ofBits binary64 b)) (notNan (ofBits binary64 b)) (ofBits-fits binary64 b) (elim (eq-or-lt-of-le h) [ inl e ↦ subst (λ (n : ℕ). T (notNan (ofBits binary64 n))) (sym e) (subst (λ (z : Float). T (notNan z)) (sym infinity-is) tt) | inr l ↦ finite-notNan (ofBits binary64 b) (subst (λ (z : Float). T (finite z)) (sym (read b (omega arith))) (fields-finite binary64 false (b / 2 ^ 52) (b % 2 ^ 52) (omega arith))) ])
 
 -- ---- a larger pattern is a larger value's
 sized-mono : (x t y u : ℕ) → t < 2 ^ 52 → (x < y) ⊎ ((x ≡ y) × (t < u)) → sized x t < sized y u
@@ -153,7 +168,7 @@ bits-lt b c h k = elim (eq-or-lt-of-le k) [ inl e ↦ at-top e | inr l ↦ finit
   where
     at-top : c ≡ infinityBits → rank (ofBits binary64 b) < rank (ofBits binary64 c)
     at-top e =
-        let f = finite-rank (ofBits binary64 b) (ofBits-fits binary64 b) (subst (λ (z : Float). T (finite z)) (sym (read b (omega arith))) (fields-finite false (b / 2 ^ 52) (b % 2 ^ 52) (omega arith))) in
+        let f = finite-rank (ofBits binary64 b) (ofBits-fits binary64 b) (subst (λ (z : Float). T (finite z)) (sym (read b (omega arith))) (fields-finite binary64 false (b / 2 ^ 52) (b % 2 ^ 52) (omega arith))) in
         let r = ap (λ (n : ℕ). rank (ofBits binary64 n)) e ∙ infinity-rank in
         omega arith
 

@@ -1,0 +1,12 @@
+use borrow.Author.Needs.{needs}
+use Rattle.little_endian.proofs.f32_at.Statement.{statement}
+use Rattle.little_endian.proofs.f32_at.Tie as tie
+
+returns : tie.Need-returns
+returns c = cc
+
+pub f32-at-spec : {M : Type 1} → statement M
+f32-at-spec =
+    tie.close
+    (tie.spec
+    (λ c κs. search needs) (λ c. search needs) (λ c κs. search needs) returns)

@@ -1,0 +1,15 @@
+use Rattle.little_endian.specs.Words.{u16At}
+use borrow.Author.Needs.{needs}
+use Rattle.little_endian.proofs.u16_at.Statement.{statement}
+use Rattle.little_endian.proofs.u16_at.Tie as tie
+
+returns : tie.Need-returns
+unfolding u16At
+returns c = search needs
+
+pub u16-at-spec : {M : Type 1} → statement M
+u16-at-spec =
+    tie.close
+    (tie.spec
+    (λ c. search needs) (λ c κs. search needs) (λ c. search needs) (λ c. search needs) (λ c κs. search needs) (λ c. search needs)
+    (λ c. search needs) returns)
