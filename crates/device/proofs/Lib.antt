@@ -1,2 +1,3 @@
 -- Laws of the conversion, for the crates above.
 pub mod Regions
+pub mod Overlaps

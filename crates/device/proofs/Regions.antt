@@ -1,7 +1,9 @@
--- C1: on the screen, a converted region has exactly the pixels that the box meets. Assumes nothing.
+-- C1: on the screen, a converted region has exactly the pixels that the box meets. Beside it, what the code of the operations on
+-- regions works out. Assumes nothing.
 use mathlib.Core.Path.{_≡_, sym, _∙_}
 use mathlib.Core.Bool.{Bool, true, false, _&&_}
-use Prim.Native.Nat.{ℕ, _+_, _-_, _^_, _≤_, _<_, min}
+use Prim.Native.Nat.{ℕ, _+_, _-_, _*_, _^_, _≤_, _<_, min, max}
+use native.Mathlib.Nat.{mul-le-mul}
 use native.Mathlib.Omega.{arith}
 use lib.Dec.{T, leb, ltb, leb→le, ltb→lt, lt→ltb}
 use lib.Ieee.{Float}
@@ -18,7 +20,8 @@ use Rattle.geometry.proofs.Edges.{Ordered}
 use Rattle.geometry.proofs.Values.{SameBox}
 use Rattle.device.specs.declared.Converted.{Converted}
 use Rattle.device.specs.declared.Converted.the-variants.{Region, Nothing}
-use Rattle.device.specs.Region.{between, fromLogical, has}
+use Rattle.device.specs.declared.DeviceRegion.{DeviceRegion}
+use Rattle.device.specs.Region.{between, fromLogical, has, right, bottom, intersect}
 use Rattle.lists.proofs.Bools.{and-false, and-off, and-true, same-bool}
 
 -- ---- the answers, by the sides
@@ -50,6 +53,28 @@ module _ (a b u v w h x y r d : ℕ) (p : x ≡ min a w) (q : y ≡ min b h) (s 
 
   pub flat-is : d ≤ y → Nothing ≡ between a b (min u w) (min v h)
   flat-is k = between-flat a b (min u w) (min v h) (omega arith)
+
+-- what two regions have in common, as the code works it out
+module _ (a b : DeviceRegion) (x y r d : ℕ) (p : x ≡ max (a .x) (b .x)) (q : y ≡ max (a .y) (b .y)) (s : r ≡ min (right a) (right b)) (t : d ≡ min (bottom a) (bottom b)) where
+  pub common-is : x < r → y < d → Region (record { x = x; y = y; width = r - x; height = d - y }) ≡ intersect a b
+  unfolding intersect
+  common-is h k = between-yes x y r d h k ∙ (λ i. between (p i) (q i) (s i) (t i))
+
+  pub common-narrow : r ≤ x → Nothing ≡ intersect a b
+  unfolding intersect
+  common-narrow h = between-narrow x y r d h ∙ (λ i. between (p i) (q i) (s i) (t i))
+
+  pub common-flat : d ≤ y → Nothing ≡ intersect a b
+  unfolding intersect
+  common-flat h = between-flat x y r d h ∙ (λ i. between (p i) (q i) (s i) (t i))
+
+-- the pixels of a region are less than 2 ^ 64
+pub area-below : (w h : ℕ) → w < 2 ^ 32 → h < 2 ^ 32 → w * h < 2 ^ 64
+area-below w h f g =
+    let a : w ≤ 2 ^ 32 - 1 = omega arith in
+    let b : h ≤ 2 ^ 32 - 1 = omega arith in
+    let k : w * h ≤ (2 ^ 32 - 1) * (2 ^ 32 - 1) = mul-le-mul a b in
+    omega arith
 
 -- ---- the pixels of a region
 Inside : ℕ → ℕ → ℕ → Bool

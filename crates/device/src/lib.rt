@@ -1,5 +1,7 @@
-// Regions in whole device pixels, as dew's compositor has them, and the conversion of a box to one.
+// Regions in whole device pixels, as dew's compositor has them: the conversion of a box to one, what two have in
+// common, the least region over two, and the pixels of one.
 ghost use mathlib.Core.Path.{_≡_};
+ghost use Prim.Native.Nat.{min, max};
 ghost use Rattle.device.specs.Region as Region;
 use geometry::Rect;
 
@@ -39,4 +41,64 @@ impl DeviceRegion {
         }
         Converted::Nothing
     }
+
+    // What both regions cover, or nothing.
+    pub fn intersect(self, other: DeviceRegion) -> Converted
+        requires { ⌜ Region.Fit self ⌝ }
+        requires { ⌜ Region.Fit other ⌝ }
+        ensures { λ r. ⌜ r ≡ Region.intersect self other ⌝ }
+    {
+        let x = larger(self.x, other.x);
+        let y = larger(self.y, other.y);
+        let right = smaller(self.x + self.width, other.x + other.width);
+        let bottom = smaller(self.y + self.height, other.y + other.height);
+        if x < right {
+            if y < bottom {
+                return Converted::Region(DeviceRegion {
+                    x,
+                    y,
+                    width: right - x,
+                    height: bottom - y,
+                });
+            }
+        }
+        Converted::Nothing
+    }
+
+    // The least region over both.
+    pub fn union(self, other: DeviceRegion) -> DeviceRegion
+        requires { ⌜ Region.Fit self ⌝ }
+        requires { ⌜ Region.Fit other ⌝ }
+        ensures { λ r. ⌜ r ≡ Region.union self other ⌝ }
+    {
+        let x = smaller(self.x, other.x);
+        let y = smaller(self.y, other.y);
+        let right = larger(self.x + self.width, other.x + other.width);
+        let bottom = larger(self.y + self.height, other.y + other.height);
+        DeviceRegion {
+            x,
+            y,
+            width: right - x,
+            height: bottom - y,
+        }
+    }
+
+    // How many pixels the region covers.
+    pub fn area(self) -> u64
+        ensures { λ n. ⌜ n ≡ Region.area self ⌝ }
+    {
+        self.width as u64 * self.height as u64
+    }
+}
+
+fn smaller(a: u32, b: u32) -> u32
+    ensures { λ r. ⌜ r ≡ min a b ⌝ }
+{
+    if a < b { a } else { b }
+}
+
+fn larger(a: u32, b: u32) -> u32
+    ensures { λ r. ⌜ r ≡ max a b ⌝ }
+{
+    if a < b { b } else { a }
 }

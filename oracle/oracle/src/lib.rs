@@ -15,6 +15,8 @@ pub mod generate;
 pub mod header;
 pub mod model;
 pub mod panels;
+#[cfg(dew)]
+pub mod parts;
 pub mod plan;
 pub mod planners;
 pub mod print;

@@ -1,0 +1,2 @@
+-- Laws of finite operands, for the crates above.
+pub mod Finite

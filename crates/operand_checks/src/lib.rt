@@ -1,0 +1,115 @@
+// Whether the operands of a command pass, once all their bytes are there: codes first, then every float, used or not.
+ghost use mathlib.Core.Path.{_≡_};
+ghost use Prim.Native.Nat.{_+_, _*_, _≤_};
+ghost use lib.ListN.{length};
+ghost use Rattle.lists.specs.Pick.{pick};
+ghost use Rattle.strip_format.specs.Format.{lengthOf};
+ghost use Rattle.operand_checks.specs.Operands as Operands;
+
+// Whether the n f64 from an offset on are finite.
+fn finite_from(s: &[u8], at: usize, n: usize) -> bool
+    requires { ⌜ at + 8 * n ≤ length (now s) ⌝ }
+    ensures { λ r. ⌜ r ≡ Operands.finiteFrom (now (s .entry)) at n ⌝ }
+{
+    let mut p = at;
+    let mut left = n;
+    while 0 < left {
+        if little_endian::finite64(little_endian::u64_at(s, p)) {
+            p += 8;
+            left -= 1;
+        } else {
+            return false;
+        }
+    }
+    true
+}
+
+fn finite_f32(s: &[u8], at: usize) -> bool
+    requires { ⌜ at + 4 ≤ length (now s) ⌝ }
+    ensures { λ r. ⌜ r ≡ Operands.finiteF32 (now (s .entry)) at ⌝ }
+{
+    little_endian::finite32(little_endian::u32_at(s, at) as u32)
+}
+
+fn finite_stroke(s: &[u8], at: usize) -> bool
+    requires { ⌜ at + 124 ≤ length (now s) ⌝ }
+    ensures { λ r. ⌜ r ≡ Operands.finiteStroke (now (s .entry)) at ⌝ }
+{
+    if finite_from(s, at + 9, 10) {
+        if finite_from(s, at + 97, 1) {
+            finite_from(s, at + 106, 1)
+        } else {
+            false
+        }
+    } else {
+        false
+    }
+}
+
+fn finite_run(s: &[u8], at: usize) -> bool
+    requires { ⌜ at + 103 ≤ length (now s) ⌝ }
+    ensures { λ r. ⌜ r ≡ Operands.finiteRun (now (s .entry)) at ⌝ }
+{
+    if finite_f32(s, at + 9) {
+        if finite_from(s, at + 13, 6) {
+            finite_from(s, at + 69, 4)
+        } else {
+            false
+        }
+    } else {
+        false
+    }
+}
+
+fn finite_glyph(s: &[u8], at: usize) -> bool
+    requires { ⌜ at + 45 ≤ length (now s) ⌝ }
+    ensures { λ r. ⌜ r ≡ Operands.finiteGlyph (now (s .entry)) at ⌝ }
+{
+    if finite_f32(s, at + 5) {
+        if finite_f32(s, at + 9) {
+            finite_from(s, at + 13, 4)
+        } else {
+            false
+        }
+    } else {
+        false
+    }
+}
+
+fn codes_fit(join: u8, start: u8, end: u8) -> bool
+    ensures { λ r. ⌜ r ≡ Operands.codesFit join start end ⌝ }
+{
+    if join <= 2 {
+        if start <= 2 { end <= 2 } else { false }
+    } else {
+        false
+    }
+}
+
+fn floats_number(pass: bool) -> u32
+    ensures { λ r. ⌜ r ≡ pick pass 0 4 ⌝ }
+{
+    if pass { 0 } else { 4 }
+}
+
+// The number that the operands of the command at an offset get, and 0 where they pass.
+pub fn operands(s: &[u8], at: usize, b: u8) -> u32
+    requires { ⌜ at + lengthOf b ≤ length (now s) ⌝ }
+    ensures { λ r. ⌜ r ≡ Operands.operandsAt (now (s .entry)) at b ⌝ }
+{
+    match b {
+        1 => floats_number(finite_from(s, at + 1, 4)),
+        3 => floats_number(finite_from(s, at + 9, 10)),
+        4 => {
+            if codes_fit(s[at + 105], s[at + 114], s[at + 115]) {
+                floats_number(finite_stroke(s, at))
+            } else {
+                3
+            }
+        }
+        5 => floats_number(finite_run(s, at)),
+        6 => floats_number(finite_glyph(s, at)),
+        7 => floats_number(finite_from(s, at + 25, 10)),
+        _ => 0,
+    }
+}

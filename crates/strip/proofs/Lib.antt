@@ -1,0 +1,3 @@
+-- Laws of steps and of reading, for the crates above.
+pub mod Effects
+pub mod Moves

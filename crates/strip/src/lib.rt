@@ -1,0 +1,274 @@
+// Reads a strip: a cursor by value, a step for each command, and the number and position of the first refusal.
+ghost use mathlib.Core.Path.{_≡_};
+ghost use mathlib.Core.Bool.{true};
+ghost use Prim.Native.Nat.{_+_, _≤_, _<_, _^_};
+ghost use lib.ListN.{length};
+ghost use Rattle.strip_format.specs.Format.{lengthOf};
+ghost use Rattle.strip.specs.Steps as Steps;
+ghost use Rattle.strip.specs.Reading as Reading;
+use affine::Transformed;
+use geometry::Rect;
+
+// Where reading stands: the offset, how many clips are open, what has been counted, how many glyphs are due of the run at
+// `run`, and the union of its glyph boxes so far.
+pub struct Cursor {
+    pub at: usize,
+    pub depth: u64,
+    pub clips: u64,
+    pub commands: u64,
+    pub glyphs: u64,
+    pub due: u64,
+    pub run: usize,
+    pub united: Rect,
+}
+
+// What the command at the cursor does. `Draw` says that a drawing command is whole, with its offset and its transformed
+// box; `Next` that only the cursor moves.
+pub enum Step {
+    Next(Cursor),
+    Clip(Cursor, Rect),
+    Pop(Cursor),
+    Draw(Cursor, usize, Rect),
+    End(Cursor),
+    Refused(u32, usize),
+}
+
+// What a strip is: read to its END, or turned away.
+pub enum Answer {
+    Read(Cursor),
+    Refused(u32, usize),
+}
+
+impl Cursor {
+    pub fn start(at: usize) -> Cursor
+        ensures { λ r. ⌜ r ≡ Steps.startAt at ⌝ }
+    {
+        Cursor {
+            at,
+            depth: 0,
+            clips: 0,
+            commands: 0,
+            glyphs: 0,
+            due: 0,
+            run: 0,
+            united: Rect {
+                x0: 0.0,
+                y0: 0.0,
+                x1: 0.0,
+                y1: 0.0,
+            },
+        }
+    }
+
+    fn clip(mut self, s: &[u8]) -> Step
+        requires { ⌜ self .at + 33 ≤ length (now s) ⌝ }
+        ensures { λ r. ⌜ r ≡ Steps.clipStep (now (s .entry)) self ⌝ }
+    {
+        let at = self.at;
+        if 32 <= self.depth {
+            return Step::Refused(6, at);
+        }
+        if 4096 <= self.clips {
+            return Step::Refused(6, at);
+        }
+        let bounds = strip_format::rect_at(s, at + 1);
+        self.at = at + 33;
+        self.depth = self.depth + 1;
+        self.clips = self.clips + 1;
+        Step::Clip(self, bounds)
+    }
+
+    fn pop(mut self) -> Step
+        requires { ⌜ self .at + 1 < 2 ^ 64 ⌝ }
+        ensures { λ r. ⌜ r ≡ Steps.popStep self ⌝ }
+    {
+        let at = self.at;
+        if self.depth == 0 {
+            return Step::Refused(5, at);
+        }
+        self.at = at + 1;
+        self.depth = self.depth - 1;
+        Step::Pop(self)
+    }
+
+    fn draw(mut self, s: &[u8], len: usize) -> Step
+        requires { ⌜ self .at + len < 2 ^ 64 ⌝ }
+        ensures { λ r. ⌜ r ≡ Steps.drawStep (now (s .entry)) self len ⌝ }
+    {
+        let at = self.at;
+        if 4096 <= self.commands {
+            return Step::Refused(6, at);
+        }
+        let united = self.united;
+        let command = strip_format::command_at(s, at);
+        match command.try_bounds(united) {
+            Transformed::Finite(bounds) => {
+                self.at = at + len;
+                self.commands = self.commands + 1;
+                self.due = 0;
+                self.run = at;
+                Step::Draw(self, at, bounds)
+            }
+            Transformed::NotFinite => Step::Refused(9, at),
+        }
+    }
+
+    fn run(mut self, s: &[u8]) -> Step
+        requires { ⌜ self .at + 103 ≤ length (now s) ⌝ }
+        ensures { λ r. ⌜ r ≡ Steps.runStep (now (s .entry)) self ⌝ }
+    {
+        let at = self.at;
+        let due = little_endian::u16_at(s, at + 101);
+        if due == 0 {
+            return self.draw(s, 103);
+        }
+        if 4096 <= self.commands {
+            return Step::Refused(6, at);
+        }
+        self.at = at + 103;
+        self.commands = self.commands + 1;
+        self.due = due;
+        self.run = at;
+        Step::Next(self)
+    }
+
+    // The boxes of the run's glyphs up to this one, united. The first glyph stands right behind its RUN.
+    fn unite(self, bounds: Rect) -> Rect
+        ensures { λ r. ⌜ r ≡ Steps.unite self bounds ⌝ }
+    {
+        let at = self.at;
+        let run = self.run;
+        let united = self.united;
+        if run <= at {
+            if at - run == 103 {
+                return bounds;
+            }
+            return united.union(bounds);
+        }
+        united.union(bounds)
+    }
+
+    // The glyph with this box, once its own corners are known to be finite.
+    fn last(mut self, s: &[u8], bounds: Rect) -> Step
+        requires { ⌜ (self .at + 45 ≤ length (now s)) × (0 < self .due) × (self .glyphs < 16384) ⌝ }
+        ensures { λ r. ⌜ r ≡ Steps.lastStep (now (s .entry)) self bounds ⌝ }
+    {
+        let at = self.at;
+        let run = self.run;
+        let due = self.due;
+        let united = self.unite(bounds);
+        self.at = at + 45;
+        self.glyphs = self.glyphs + 1;
+        self.due = due - 1;
+        self.united = united;
+        if due == 1 {
+            let command = strip_format::command_at(s, run);
+            let transform = command.transform();
+            match transform.try_transform(united) {
+                Transformed::Finite(whole) => Step::Draw(self, run, whole),
+                Transformed::NotFinite => Step::Refused(9, at),
+            }
+        } else {
+            Step::Next(self)
+        }
+    }
+
+    fn glyph(self, s: &[u8]) -> Step
+        requires { ⌜ (self .at + 45 ≤ length (now s)) × (0 < self .due) ⌝ }
+        ensures { λ r. ⌜ r ≡ Steps.glyphStep (now (s .entry)) self ⌝ }
+    {
+        let at = self.at;
+        let run = self.run;
+        if 16384 <= self.glyphs {
+            return Step::Refused(6, at);
+        }
+        let bounds = strip_format::rect_at(s, at + 13);
+        let command = strip_format::command_at(s, run);
+        let transform = command.transform();
+        match transform.try_transform(bounds) {
+            Transformed::Finite(_) => self.last(s, bounds),
+            Transformed::NotFinite => Step::Refused(9, at),
+        }
+    }
+}
+
+fn due_fits(b: u8, due: u64) -> bool
+    ensures { λ r. ⌜ r ≡ Steps.dueFits b due ⌝ }
+{
+    if b == 6 { 0 < due } else { due == 0 }
+}
+
+fn effect(s: &[u8], st: Cursor, b: u8) -> Step
+    requires { ⌜ (st .at + lengthOf b ≤ length (now s)) × (Steps.dueFits b (st .due) ≡ true) ⌝ }
+    ensures { λ r. ⌜ r ≡ Steps.effectOf (now (s .entry)) st b ⌝ }
+{
+    match b {
+        0 => {
+            let mut end = st;
+            end.at = end.at + 1;
+            Step::End(end)
+        }
+        1 => st.clip(s),
+        2 => st.pop(),
+        5 => st.run(s),
+        6 => st.glyph(s),
+        _ => st.draw(s, strip_format::length_of(b)),
+    }
+}
+
+// One command: turned away, or read. Any cursor will do; one past the end is a refusal too.
+pub fn take_step(s: &[u8], st: Cursor) -> Step
+    ensures { λ r. ⌜ r ≡ Steps.stepAt (now (s .entry)) st ⌝ }
+{
+    let at = st.at;
+    let due = st.due;
+    if s.len() <= at {
+        return Step::Refused(2, s.len());
+    }
+    let b = s[at];
+    if 7 < b {
+        return Step::Refused(3, at);
+    }
+    if due_fits(b, due) {
+        if s.len() - at < strip_format::length_of(b) {
+            return Step::Refused(2, at);
+        }
+        let number = operand_checks::operands(s, at, b);
+        if number == 0 {
+            effect(s, st, b)
+        } else {
+            Step::Refused(number, at)
+        }
+    } else {
+        Step::Refused(7, at)
+    }
+}
+
+// Reads a strip from an offset to its END.
+pub fn read_strip(s: &[u8], at: usize) -> Answer
+    ensures { λ r. ⌜ r ≡ Reading.readStrip (now (s .entry)) at ⌝ }
+{
+    let mut st = Cursor::start(at);
+    loop {
+        match take_step(s, st) {
+            Step::Next(t) => {
+                st = t;
+            }
+            Step::Clip(t, _) => {
+                st = t;
+            }
+            Step::Pop(t) => {
+                st = t;
+            }
+            Step::Draw(t, _, _) => {
+                st = t;
+            }
+            Step::End(t) => {
+                return Answer::Read(t);
+            }
+            Step::Refused(number, position) => {
+                return Answer::Refused(number, position);
+            }
+        }
+    }
+}

@@ -1,0 +1,3 @@
+-- Laws of the format, for the crates above.
+pub mod Lengths
+pub mod Commands

@@ -1,0 +1,196 @@
+// The strip's bytes: how long each command is, and the drawing command or glyph that stands at
+// an offset. What is compared later is decoded here again, so it is what was read.
+ghost use mathlib.Core.Path.{_≡_};
+ghost use Prim.Native.Nat.{_+_, _≤_};
+ghost use lib.ListN.{length};
+ghost use Rattle.strip_format.specs.Format as Format;
+use affine::Affine;
+use commands::Cap;
+use commands::DrawCommand;
+use commands::Glyph;
+use commands::Join;
+use commands::Stroke;
+use geometry::Rect;
+
+// The length of a command with its operands, by its byte; 1 for bytes that are no command's.
+pub fn length_of(b: u8) -> usize
+    ensures { λ r. ⌜ r ≡ Format.lengthOf b ⌝ }
+{
+    match b {
+        1 => 33,
+        3 => 97,
+        4 => 124,
+        5 => 103,
+        6 => 45,
+        7 => 105,
+        _ => 1,
+    }
+}
+
+pub fn rect_at(s: &[u8], at: usize) -> Rect
+    requires { ⌜ at + 32 ≤ length (now s) ⌝ }
+    ensures { λ r. ⌜ r ≡ Format.rectAt (now (s .entry)) at ⌝ }
+{
+    Rect {
+        x0: little_endian::f64_at(s, at),
+        y0: little_endian::f64_at(s, at + 8),
+        x1: little_endian::f64_at(s, at + 16),
+        y1: little_endian::f64_at(s, at + 24),
+    }
+}
+
+pub fn affine_at(s: &[u8], at: usize) -> Affine
+    requires { ⌜ at + 48 ≤ length (now s) ⌝ }
+    ensures { λ r. ⌜ r ≡ Format.affineAt (now (s .entry)) at ⌝ }
+{
+    Affine {
+        a: little_endian::f64_at(s, at),
+        b: little_endian::f64_at(s, at + 8),
+        c: little_endian::f64_at(s, at + 16),
+        d: little_endian::f64_at(s, at + 24),
+        e: little_endian::f64_at(s, at + 32),
+        f: little_endian::f64_at(s, at + 40),
+    }
+}
+
+fn join_of(code: u8) -> Join
+    ensures { λ r. ⌜ r ≡ Format.joinOf code ⌝ }
+{
+    match code {
+        0 => Join::Bevel,
+        1 => Join::Miter,
+        _ => Join::Round,
+    }
+}
+
+fn cap_of(code: u8) -> Cap
+    ensures { λ r. ⌜ r ≡ Format.capOf code ⌝ }
+{
+    match code {
+        0 => Cap::Butt,
+        1 => Cap::Square,
+        _ => Cap::Round,
+    }
+}
+
+fn stroke_at(s: &[u8], at: usize) -> Stroke
+    requires { ⌜ at + 27 ≤ length (now s) ⌝ }
+    ensures { λ r. ⌜ r ≡ Format.strokeAt (now (s .entry)) at ⌝ }
+{
+    Stroke {
+        width: little_endian::f64_at(s, at),
+        join: join_of(s[at + 8]),
+        miter_limit: little_endian::f64_at(s, at + 9),
+        start_cap: cap_of(s[at + 17]),
+        end_cap: cap_of(s[at + 18]),
+        dash: little_endian::u64_at(s, at + 19),
+    }
+}
+
+fn fill_at(s: &[u8], at: usize) -> DrawCommand
+    requires { ⌜ at + 97 ≤ length (now s) ⌝ }
+    ensures { λ r. ⌜ r ≡ Format.fillAt (now (s .entry)) at ⌝ }
+{
+    DrawCommand::FillPath {
+        path: little_endian::u64_at(s, at + 1),
+        bounds: rect_at(s, at + 9),
+        transform: affine_at(s, at + 41),
+        brush: little_endian::u64_at(s, at + 89),
+    }
+}
+
+fn stroke_path_at(s: &[u8], at: usize) -> DrawCommand
+    requires { ⌜ at + 124 ≤ length (now s) ⌝ }
+    ensures { λ r. ⌜ r ≡ Format.strokePathAt (now (s .entry)) at ⌝ }
+{
+    DrawCommand::StrokePath {
+        path: little_endian::u64_at(s, at + 1),
+        bounds: rect_at(s, at + 9),
+        transform: affine_at(s, at + 41),
+        stroke: stroke_at(s, at + 97),
+        brush: little_endian::u64_at(s, at + 89),
+    }
+}
+
+fn run_at(s: &[u8], at: usize) -> DrawCommand
+    requires { ⌜ at + 103 ≤ length (now s) ⌝ }
+    ensures { λ r. ⌜ r ≡ Format.runAt (now (s .entry)) at ⌝ }
+{
+    DrawCommand::GlyphRun {
+        font: little_endian::u64_at(s, at + 1),
+        font_size: little_endian::f32_at(s, at + 9),
+        transform: affine_at(s, at + 13),
+        brush: little_endian::u64_at(s, at + 61),
+        bounds: rect_at(s, at + 69),
+        glyphs: little_endian::u16_at(s, at + 101) as u32,
+    }
+}
+
+fn scene_at(s: &[u8], at: usize) -> DrawCommand
+    requires { ⌜ at + 105 ≤ length (now s) ⌝ }
+    ensures { λ r. ⌜ r ≡ Format.sceneAt (now (s .entry)) at ⌝ }
+{
+    DrawCommand::Scene {
+        content: little_endian::u64_at(s, at + 1),
+        generation: little_endian::u64_at(s, at + 9),
+        target: little_endian::u64_at(s, at + 17),
+        transform: affine_at(s, at + 25),
+        bounds: rect_at(s, at + 73),
+    }
+}
+
+fn blank() -> DrawCommand
+    ensures { λ r. ⌜ r ≡ Format.blank ⌝ }
+{
+    DrawCommand::Scene {
+        content: 0,
+        generation: 0,
+        target: 0,
+        transform: Affine {
+            a: 0.0,
+            b: 0.0,
+            c: 0.0,
+            d: 0.0,
+            e: 0.0,
+            f: 0.0,
+        },
+        bounds: Rect {
+            x0: 0.0,
+            y0: 0.0,
+            x1: 0.0,
+            y1: 0.0,
+        },
+    }
+}
+
+// The drawing command at an offset, and one without content where none stands whole.
+pub fn command_at(s: &[u8], at: usize) -> DrawCommand
+    ensures { λ r. ⌜ r ≡ Format.commandAt (now (s .entry)) at ⌝ }
+{
+    if s.len() <= at {
+        return blank();
+    }
+    let b = s[at];
+    if s.len() - at < length_of(b) {
+        return blank();
+    }
+    match b {
+        3 => fill_at(s, at),
+        4 => stroke_path_at(s, at),
+        5 => run_at(s, at),
+        7 => scene_at(s, at),
+        _ => blank(),
+    }
+}
+
+pub fn glyph_at(s: &[u8], at: usize) -> Glyph
+    requires { ⌜ at + 45 ≤ length (now s) ⌝ }
+    ensures { λ r. ⌜ r ≡ Format.glyphAt (now (s .entry)) at ⌝ }
+{
+    Glyph {
+        id: little_endian::u32_at(s, at + 1) as u32,
+        x: little_endian::f32_at(s, at + 5),
+        y: little_endian::f32_at(s, at + 9),
+        bounds: rect_at(s, at + 13),
+    }
+}
