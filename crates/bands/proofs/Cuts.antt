@@ -5,8 +5,7 @@ use mathlib.Core.List.{List, [], _∷_, _++_}
 use Prim.Native.Nat.{ℕ, _+_, _≤_, _<_}
 use native.Mathlib.Omega.{arith}
 use lib.ListN.{length}
-use Rattle.lists.specs.Members.{All, Any, Pairs}
-use Rattle.lists.proofs.Members.{all-map}
+use Rattle.lists.specs.Members.{All, Any}
 use Rattle.geometry.specs.declared.Rect.{Rect}
 use Rattle.device.specs.declared.DeviceRegion.{DeviceRegion}
 use Rattle.device.specs.declared.Converted.{Converted}
@@ -14,8 +13,8 @@ use Rattle.device.specs.declared.Converted.the-variants.{Region, Nothing}
 use Rattle.device.specs.Region.{right, bottom, Fit, fromLogical, intersect, union}
 use Rattle.device.proofs.Regions.{OnScreen, on-screen}
 use Rattle.device.proofs.Overlaps.{Overlap, part, overlap-part, by-overlap, part-fit, union-fit}
-use Rattle.bands.specs.Bands.{unlessNothing, regionsOf, cutTo, sortBy, xy, yx, join, mergeOverlapping, bandRegions, Gap}
-use Rattle.bands.proofs.Sorted.{all-sort, any-sort, length-sort}
+use Rattle.bands.specs.Bands.{unlessNothing, regionsOf, cutTo, sortBy, xy, yx, join, mergeOverlapping, bandRegions}
+use Rattle.bands.proofs.Sorted.{all-sort, length-sort}
 use Rattle.bands.proofs.Joins.{all-join, join-gap, sort-by-x, xy-leftward, few}
 
 -- ---- a region, unless it is nothing
@@ -31,10 +30,7 @@ unfolding regionsOf
 regions-append w h [] r = refl
 regions-append w h (b ∷ l) r = ap (unlessNothing (fromLogical b w h)) (regions-append w h l r) ∙ unless-append (fromLogical b w h) (regionsOf w h l) (regionsOf w h r)
 
--- they lie on the screen and have pixels
-abbrev OnIt : ℕ → ℕ → DeviceRegion → Type 0
-OnIt w h r = (0 < r .width) × (0 < r .height) × (right r ≤ w) × (bottom r ≤ h)
-
+-- what every region has that lies on the screen and has pixels, the regions of boxes have
 pub all-regions : (P : DeviceRegion → Type 0) (w h : ℕ) → ((r : DeviceRegion) → 0 < r .width → 0 < r .height → right r ≤ w → bottom r ≤ h → P r) → (l : List Rect) → All P (regionsOf w h l)
 unfolding All regionsOf
 all-regions P w h f [] = tt

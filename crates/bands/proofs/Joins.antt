@@ -2,20 +2,19 @@
 use mathlib.Core.Path.{_≡_, refl, sym, ap, _∙_}
 use mathlib.Core.Logic.{_⊎_, inl, inr, ⊎-elim}
 use mathlib.Core.List.{List, [], _∷_}
-use Prim.Native.Nat.{ℕ, suc, _+_, _*_, _≤_, _<_, min}
+use Prim.Native.Nat.{ℕ, _+_, _≤_, _<_}
 use native.Mathlib.Omega.{arith}
 use borrow.Author.Tests.{le-leb, lt-leb}
-use lib.Dec.{leb}
 use lib.ListN.{length}
 use Rattle.lists.specs.Members.{All, Any, Pairs}
 use Rattle.lists.proofs.Picks.{by-le}
 use Rattle.lists.proofs.Members.{all-map, pairs-with}
 use Rattle.device.specs.declared.DeviceRegion.{DeviceRegion}
-use Rattle.device.specs.Region.{right, bottom, Fit, union}
-use Rattle.device.proofs.Overlaps.{union-fit, union-right, union-reaches, union-comm, union-swap}
+use Rattle.device.specs.Region.{right, Fit, union}
+use Rattle.device.proofs.Overlaps.{union-fit, union-right, union-comm, union-swap}
 use Rattle.bands.specs.Bands.{insertBy, sortBy, xy, yx, joinTo, join, mergeOverlapping, Gap}
 use Rattle.bands.specs.Keys.{pack, xyKey, yxKey, fromXY}
-use Rattle.bands.proofs.Sorted.{insert-le, insert-gt, all-sort, rises-sort, Rises, Alike, alike-sort}
+use Rattle.bands.proofs.Sorted.{all-sort, rises-sort, Rises, Alike, alike-sort}
 use Rattle.bands.proofs.Keyed.{from-xy, sort-over}
 
 -- the second of the two starts no further to the left

@@ -21,7 +21,7 @@ use Rattle.geometry.proofs.Values.{SameBox}
 use Rattle.device.specs.declared.Converted.{Converted}
 use Rattle.device.specs.declared.Converted.the-variants.{Region, Nothing}
 use Rattle.device.specs.declared.DeviceRegion.{DeviceRegion}
-use Rattle.device.specs.Region.{between, fromLogical, has, right, bottom, intersect}
+use Rattle.device.specs.Region.{between, fromLogical, has, right, bottom, intersect, union}
 use Rattle.lists.proofs.Bools.{and-false, and-off, and-true, same-bool}
 
 -- ---- the answers, by the sides
@@ -67,6 +67,11 @@ module _ (a b : DeviceRegion) (x y r d : ℕ) (p : x ≡ max (a .x) (b .x)) (q :
   pub common-flat : d ≤ y → Nothing ≡ intersect a b
   unfolding intersect
   common-flat h = between-flat x y r d h ∙ (λ i. between (p i) (q i) (s i) (t i))
+
+-- the least region over two, as the code works it out
+pub union-is : (a b : DeviceRegion) (x y r d : ℕ) → x ≡ min (a .x) (b .x) → y ≡ min (a .y) (b .y) → r ≡ max (right a) (right b) → d ≡ max (bottom a) (bottom b) → _≡_ {A = DeviceRegion} (record { x = x; y = y; width = r - x; height = d - y }) (union a b)
+unfolding union
+union-is a b x y r d p q s t = λ i. record { x = p i; y = q i; width = s i - p i; height = t i - q i }
 
 -- the pixels of a region are less than 2 ^ 64
 pub area-below : (w h : ℕ) → w < 2 ^ 32 → h < 2 ^ 32 → w * h < 2 ^ 64

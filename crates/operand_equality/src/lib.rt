@@ -60,10 +60,12 @@ pub fn stroke_eq(a: Stroke, b: Stroke) -> bool
     let other_start = b.start_cap;
     let end = a.end_cap;
     let other_end = b.end_cap;
+    let dash = a.dash;
+    let other_dash = b.dash;
     let joins = join_code(join) == join_code(other_join);
     let caps = both(same_cap(start, other_start), same_cap(end, other_end));
     let numbers = both(a.width == b.width, a.miter_limit == b.miter_limit);
-    both(both(numbers, both(joins, caps)), a.dash == b.dash)
+    both(both(numbers, both(joins, caps)), dash == other_dash)
 }
 
 // Whether two sizes have the same bits. What is equal by value is no NaN, so its bits are known.

@@ -1,6 +1,6 @@
 -- S4: a schedule hangs on the set of the regions alone, not on their order and not on how often each is there (W-214). Assumes nothing.
 use mathlib.Core.Path.{_≡_, refl, sym, ap, _∙_, subst}
-use mathlib.Core.Logic.{_⊎_, inl, inr, ⊎-elim}
+use mathlib.Core.Logic.{_⊎_, ⊎-elim}
 use mathlib.Core.List.{List, [], _∷_, _++_, map, map-append}
 use Prim.Native.Nat.{ℕ, zero, suc, _+_, _*_, _≤_, _<_}
 use native.Mathlib.Omega.{arith}
@@ -13,8 +13,7 @@ use Rattle.sorting.specs.Sort.{insert, sort, Ascending}
 use Rattle.sorting.proofs.Sorts.{insert-le, insert-gt, sort-append-comm, any-sort}
 use Rattle.sorting.proofs.Ascents.{asc-least, asc-rest, least-in, sort-asc}
 use Rattle.device.specs.declared.DeviceRegion.{DeviceRegion}
-use Rattle.device.specs.declared.Converted.the-variants.{Nothing}
-use Rattle.device.specs.Region.{right, bottom, Fit, intersect, union}
+use Rattle.device.specs.Region.{right, Fit, union}
 use Rattle.device.proofs.Overlaps.{Overlap, part, by-overlap, union-self, union-again, union-reaches}
 use Rattle.rows.specs.Rows.{rowCount}
 use Rattle.bands.specs.Bands.{cutTo, joinTo, join, sortBy, mergeOverlapping, bandRegions}

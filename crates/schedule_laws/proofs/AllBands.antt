@@ -1,8 +1,8 @@
 -- What holds of every schedule: S1, S2, S3 and the order. Assumes nothing.
-use mathlib.Core.Path.{_≡_, refl, sym, ap, _∙_, subst}
-use mathlib.Core.Logic.{_⊎_, inl, inr, ⊎-elim}
-use mathlib.Core.List.{List, [], _∷_, _++_}
-use Prim.Native.Nat.{ℕ, zero, suc, _+_, _-_, _*_, _/_, _≤_, _<_, min, max}
+use mathlib.Core.Path.{_≡_, sym, _∙_, subst}
+use mathlib.Core.Logic.{_⊎_, ⊎-elim}
+use mathlib.Core.List.{List}
+use Prim.Native.Nat.{ℕ, zero, suc, _+_, _-_, _*_, _/_, _≤_, _<_}
 use native.Mathlib.Omega.{arith}
 use native.Mathlib.Nat.{suc-mul, le-div-iff-mul-le, div-eq-of-lt-le, div-mul-le-self, lt-div-mul-add, not-suc-le-zero}
 use Rattle.lists.specs.Members.{All, Any, Pairs}
@@ -11,10 +11,10 @@ use Rattle.lists.proofs.Members.{all-none, all-map, all-both, all-append, any-l
 use Rattle.device.specs.declared.DeviceRegion.{DeviceRegion}
 use Rattle.device.specs.Region.{right, bottom, Fit}
 use Rattle.rows.specs.Rows.{rowCount}
-use Rattle.bands.specs.Bands.{yx, bandRegions, Gap}
+use Rattle.bands.specs.Bands.{bandRegions}
 use Rattle.scheduler.specs.Schedule.{Sizes, bandFrom, bandsTo, scheduleOf}
 use Rattle.scheduler.proofs.Rows.{band-of-row, next-row}
-use Rattle.schedule_laws.specs.Placed.{Covers, OnScreen, Placed, Clear, Before, Schedulable}
+use Rattle.schedule_laws.specs.Placed.{Covers, Placed, Clear, Before, Schedulable}
 use Rattle.schedule_laws.proofs.OneBand.{InBand, Sides, all-in-band, band-sides, band-before, band-covers}
 
 -- ---- rows and bands

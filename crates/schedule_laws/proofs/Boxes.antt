@@ -1,7 +1,7 @@
 -- The laws of a schedule for lists of boxes. Assumes nothing.
 use mathlib.Core.Path.{_≡_, refl, sym, ap, _∙_, subst}
 use mathlib.Core.Logic.{_⊎_, inl, inr, ⊎-elim}
-use mathlib.Core.Bool.{Bool, true, false, _&&_}
+use mathlib.Core.Bool.{true, _&&_}
 use mathlib.Core.List.{List, [], _∷_, map}
 use Prim.Native.Nat.{ℕ, _+_, _-_, _*_, _^_, _≤_, _<_, min}
 use native.Mathlib.Nat.{le-antisymm, add-mul, one-mul}
@@ -9,9 +9,9 @@ use native.Mathlib.Omega.{arith}
 use lib.Dec.{leb, ltb, leb→le, ltb→lt}
 use lib.Ieee.Fits.{and-l, and-r}
 use Rattle.lists.specs.Members.{All, Any, In}
-use Rattle.lists.proofs.Members.{all-map, all-both, any-map, all-any}
+use Rattle.lists.proofs.Members.{all-map, all-both, all-any}
 use Rattle.lists.proofs.Bools.{holds}
-use Rattle.ieee.proofs.Rank.{unit, middle, unit-pos, rank-whole, whole-ordered}
+use Rattle.ieee.proofs.Rank.{unit, unit-pos, rank-whole, whole-ordered}
 use Rattle.floats.specs.Whole.{whole, floor, ceil}
 use Rattle.floats.proofs.Wholes.{floor-at-most, floor-at-least, ceil-at-most, floor-ceil}
 use Rattle.geometry.specs.declared.Rect.{Rect}

@@ -1,7 +1,7 @@
 -- Worked schedules, and lists that are schedulable and that are not: the laws speak of something. Assumes nothing.
 use mathlib.Core.Path.{_≡_, refl, subst}
 use mathlib.Core.Logic.{⊎-elim}
-use mathlib.Core.List.{List, [], _∷_}
+use mathlib.Core.List.{[], _∷_}
 use Prim.Native.Nat.{ℕ, _+_, _*_, _≤_, _<_}
 use native.Mathlib.Omega.{arith}
 use lib.Ieee.{lt, ofInt}
@@ -10,9 +10,9 @@ use Rattle.floats.specs.Whole.{whole, floor, ceil}
 use Rattle.geometry.specs.declared.Rect.{Rect}
 use Rattle.device.specs.declared.DeviceRegion.{DeviceRegion}
 use Rattle.device.specs.Region.{between, intersect, union}
-use Rattle.bands.specs.Bands.{regionsOf, cutTo, insertBy, sortBy, joinTo, join, mergeOverlapping, bandRegions}
-use Rattle.scheduler.specs.Schedule.{Sizes, bandFrom, bandsTo, scheduleOf, schedule}
-use Rattle.schedule_laws.specs.Placed.{Placed, Clear, Schedulable}
+use Rattle.bands.specs.Bands.{regionsOf, cutTo, insertBy, sortBy, joinTo, join, mergeOverlapping}
+use Rattle.scheduler.specs.Schedule.{Sizes, bandsTo, scheduleOf, schedule}
+use Rattle.schedule_laws.specs.Placed.{Clear, Schedulable}
 use Rattle.schedule_laws.proofs.AllBands.{schedulable}
 
 abbrev at : ℕ → ℕ → ℕ → ℕ → DeviceRegion

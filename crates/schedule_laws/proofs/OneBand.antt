@@ -1,14 +1,14 @@
 -- What holds of the regions of one band. Assumes nothing.
 use mathlib.Core.Logic.{_⊎_, inl, inr, ⊎-elim}
-use mathlib.Core.List.{List, [], _∷_}
-use Prim.Native.Nat.{ℕ, _+_, _-_, _*_, _≤_, _<_, min, max}
+use mathlib.Core.List.{List}
+use Prim.Native.Nat.{ℕ, _-_, _≤_, _<_}
 use native.Mathlib.Omega.{arith}
 use Rattle.lists.specs.Members.{All, Any, Pairs}
 use Rattle.lists.proofs.Members.{all-map, all-of, pairs-with, pairs-both, pairs-map}
 use Rattle.device.specs.declared.DeviceRegion.{DeviceRegion}
 use Rattle.device.specs.Region.{right, bottom, Fit, union}
 use Rattle.device.proofs.Overlaps.{Overlap, part}
-use Rattle.bands.specs.Bands.{cutTo, sortBy, xy, yx, join, mergeOverlapping, bandRegions, Gap}
+use Rattle.bands.specs.Bands.{cutTo, xy, yx, mergeOverlapping, bandRegions, Gap}
 use Rattle.bands.proofs.Sorted.{all-sort, any-sort, pairs-sort, rises-sort, Rises}
 use Rattle.bands.proofs.Joins.{all-join, any-join, join-gap, sort-by-x, xy-leftward}
 use Rattle.bands.proofs.Cuts.{all-cut, any-cut}

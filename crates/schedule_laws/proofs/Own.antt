@@ -14,16 +14,16 @@ use Rattle.lists.proofs.Picks.{by-le}
 use Rattle.lists.proofs.Members.{all-map, pairs-with, pairs-both, all-take, all-drop, pairs-take, pairs-drop}
 use Rattle.device.specs.declared.DeviceRegion.{DeviceRegion}
 use Rattle.device.specs.Region.{right, bottom, Fit}
-use Rattle.device.proofs.Overlaps.{Overlap, part, above-nothing}
+use Rattle.device.proofs.Overlaps.{part, above-nothing}
 use Rattle.rows.specs.Rows.{rowCount}
-use Rattle.bands.specs.Bands.{cutTo, insertBy, sortBy, yx, joinTo, join, mergeOverlapping, bandRegions, Gap}
+use Rattle.bands.specs.Bands.{cutTo, insertBy, sortBy, joinTo, join, mergeOverlapping, bandRegions, Gap}
 use Rattle.bands.specs.Keys.{pack, xyKey, yxKey, fromYX}
-use Rattle.bands.proofs.Sorted.{insert-le, all-sort, pairs-sort, Rises}
+use Rattle.bands.proofs.Sorted.{insert-le, pairs-sort, Rises}
 use Rattle.bands.proofs.Keyed.{from-yx, sort-over}
 use Rattle.bands.proofs.Joins.{ByX, sort-by-x, xy-key-leftward, merge-by-keys}
 use Rattle.bands.proofs.Cuts.{cut-none, cut-in, cut-out}
 use Rattle.scheduler.specs.Schedule.{Sizes, bandFrom, bandsTo, scheduleOf}
-use Rattle.schedule_laws.specs.Placed.{OnScreen, Placed, Clear, Before, Schedulable}
+use Rattle.schedule_laws.specs.Placed.{Placed, Clear, Before, Schedulable}
 use Rattle.schedule_laws.proofs.OneBand.{Sides, sides-flip}
 use Rattle.schedule_laws.proofs.AllBands.{row-count, placed-fits, schedulable}
 use Rattle.schedule_laws.proofs.Sifts.{sift, sift-empty, sift-yes, sift-no, sift-all, sift-none, all-sift, pairs-sift, sift-next}

@@ -2,17 +2,16 @@
 use mathlib.Core.Path.{_≡_, sym, _∙_}
 use mathlib.Core.Logic.{_⊎_, inl, inr, ⊎-elim}
 use mathlib.Core.List.{List}
-use Prim.Native.Nat.{ℕ, _+_, _*_, _/_, _≤_, _<_}
+use Prim.Native.Nat.{ℕ, _*_, _/_, _≤_, _<_}
 use native.Mathlib.Omega.{arith}
 use native.Mathlib.Nat.{mul-le-mul, div-mul-le-self}
 use lib.ListN.{length, getD}
 use Rattle.lists.proofs.Picks.{by-le}
 use Rattle.lists.proofs.Members.{all-at, pairs-at}
 use Rattle.device.specs.declared.DeviceRegion.{DeviceRegion}
-use Rattle.device.specs.Region.{right, bottom, Fit, area}
-use Rattle.bands.specs.Bands.{yx}
+use Rattle.device.specs.Region.{bottom, Fit, area}
 use Rattle.scheduler.specs.Schedule.{Sizes}
-use Rattle.schedule_laws.specs.Placed.{Covers, OnScreen, Placed, Clear, Before, Schedulable}
+use Rattle.schedule_laws.specs.Placed.{Covers, Placed, Clear, Before, Schedulable}
 use Rattle.schedule_laws.proofs.AllBands.{no-share, row-band, placed-fits}
 use Rattle.schedule_laws.proofs.Own.{before-band}
 

@@ -4,7 +4,7 @@ use mathlib.Core.Path.{_≡_}
 use mathlib.Core.Logic.{_⊎_}
 use mathlib.Core.List.{List}
 use Prim.Native.Nat.{ℕ, _+_, _*_, _/_, _≤_, _<_}
-use Rattle.lists.specs.Members.{All, Pairs}
+use Rattle.lists.specs.Members.{All, Any, Pairs}
 use Rattle.floats.specs.Whole.{whole}
 use Rattle.geometry.specs.declared.Rect.{Rect}
 use Rattle.device.specs.declared.DeviceRegion.{DeviceRegion}
@@ -43,6 +43,23 @@ pub record Schedulable (w h b : ℕ) (l : List DeviceRegion) : Type 0 where
   pub placed : All (Placed w h b) l
   pub clear : Pairs (Clear b) l
   pub ascends : Pairs Before l
+
+-- c is one of the region's columns
+abbrev pub Column : ℕ → DeviceRegion → Type 0
+Column c r = (r .x ≤ c) × (c < right r)
+
+-- g lies in m
+pub record Inside (g m : DeviceRegion) : Type 0 where
+  pub in-left : m .x ≤ g .x
+  pub in-right : right g ≤ right m
+  pub in-top : m .y ≤ g .y
+  pub in-bottom : bottom g ≤ bottom m
+
+-- m is a run of columns that the list covers, with the least top and the greatest bottom of the regions in it
+pub record Run (l : List DeviceRegion) (m : DeviceRegion) : Type 0 where
+  pub columns : (c : ℕ) → Column c m → Any (Column c) l
+  pub least-top : Any (λ g. Inside g m × (g .y ≡ m .y)) l
+  pub most-bottom : Any (λ g. Inside g m × (bottom g ≡ bottom m)) l
 
 -- a region as a box of whole numbers
 abbrev pub boxOf : DeviceRegion → Rect

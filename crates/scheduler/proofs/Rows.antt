@@ -1,6 +1,6 @@
 -- The turns of the loop over the bands. Assumes nothing.
 use mathlib.Core.Path.{_≡_, refl, sym, ap, _∙_, subst}
-use mathlib.Core.List.{List, [], _∷_, _++_, map, append-assoc}
+use mathlib.Core.List.{List, _++_, map}
 use Prim.Native.Nat.{ℕ, zero, suc, _+_, _-_, _*_, _/_, _≤_, _<_, min}
 use native.Mathlib.Nat.{le-div-iff-mul-le, suc-mul, div-le-self}
 use native.Mathlib.Numerals.{add-one}
@@ -11,14 +11,13 @@ use lib.Seq.{length-take-le}
 use Rattle.lists.specs.Members.{All}
 use Rattle.lists.proofs.Picks.{by-le}
 use Rattle.device.specs.declared.DeviceRegion.{DeviceRegion}
-use Rattle.device.specs.Region.{right, Fit}
+use Rattle.device.specs.Region.{Fit}
 use Rattle.rows.specs.Rows.{rowCount}
 use Rattle.bands.specs.Bands.{bandRegions}
 use Rattle.bands.specs.Keys.{fromYX}
 use Rattle.bands.proofs.Cuts.{band-few}
-use Rattle.scheduler.specs.declared.Scheduled.{Scheduled}
 use Rattle.scheduler.specs.declared.Scheduled.the-variants.{Regions, Full}
-use Rattle.scheduler.specs.Schedule.{Sizes, bandFrom, bandsTo, scheduleOf, pixelsOf, wordsOf, answerOf, Answers}
+use Rattle.scheduler.specs.Schedule.{Sizes, bandFrom, bandsTo, scheduleOf, pixelsOf, wordsOf, Answers}
 use Rattle.scheduler.proofs.Writes.{words-append, words-length, pixels-append, pixels-most, put-behind}
 
 -- ---- rows and bands
