@@ -1,6 +1,5 @@
 -- What the chains are after a clip more is stored, and what a clip's second box is worth. Assumes nothing.
 use mathlib.Core.Path.{_≡_, refl, sym, ap, _∙_}
-use mathlib.Core.Bool.{Bool, true, false}
 use mathlib.Core.List.{List, [], _∷_, _++_}
 use Prim.Native.Nat.{ℕ, zero, suc, _+_, _-_, _*_, _≤_, _<_}
 use native.Mathlib.Omega.{arith}
@@ -9,8 +8,7 @@ use lib.Dec.{eqb}
 use lib.ListN.{length, getD, set, length-set, length-append}
 use lib.Seq.{getD-set-same, getD-set-other}
 use lib.Ieee.{Float}
-use borrow.Author.Tests.{eqb-true, eqb-false, eq-eqb, ne-eqb}
-use Rattle.lists.specs.Pick.{pick}
+use borrow.Author.Tests.{eq-eqb, ne-eqb}
 use Rattle.lists.proofs.Picks.{pick-true, pick-false, le-or-lt}
 use mathlib.Core.Logic.{_⊎_, inl, inr, ⊎-elim}
 use Rattle.geometry.specs.declared.Rect.{Rect}
@@ -48,11 +46,8 @@ module _ (n : ℕ) (bs : List Float) (ns : List ℕ) (cs : List Float) (ms : Lis
   agree : (j k x : ℕ) → x ≤ n → x ≤ j → x ≤ k → chainFrom j cs ms x ≡ chainFrom k bs ns x
   agree zero k x l p q = stop zero cs ms x p ∙ sym (stop k bs ns x p)
   agree (suc j) zero x l p q = stop (suc j) cs ms x q ∙ sym (stop zero bs ns x q)
-  agree (suc j) (suc k) x l p q = go (agree j k) (by-zero x)
+  agree (suc j) (suc k) x l p q = go (agree j k) (le-or-lt x 0)
     where
-      by-zero : (y : ℕ) → (y ≤ 0) ⊎ (0 < y)
-      by-zero y = le-or-lt y 0
-
       go : ((y : ℕ) → y ≤ n → y ≤ j → y ≤ k → chainFrom j cs ms y ≡ chainFrom k bs ns y) → (x ≤ 0) ⊎ (0 < x) → chainFrom (suc j) cs ms x ≡ chainFrom (suc k) bs ns x
       go f (inl h) = stop (suc j) cs ms x h ∙ sym (stop (suc k) bs ns x h)
       go f (inr h) =

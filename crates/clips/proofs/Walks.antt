@@ -2,10 +2,9 @@
 use mathlib.Core.Path.{_≡_, refl, sym, ap, _∙_}
 use mathlib.Core.Bool.{Bool, true, false, _&&_}
 use mathlib.Core.List.{List, [], _∷_, _++_}
-use Prim.Native.Nat.{ℕ, zero, suc, _-_, _*_, _≤_, _<_}
+use Prim.Native.Nat.{ℕ, zero, suc, _-_, _≤_, _<_}
 use native.Mathlib.Omega.{arith}
 use lib.Dec.{eqb}
-use lib.ListN.{length, getD}
 use lib.Ieee.{Float}
 use borrow.Author.Tests.{eq-eqb, ne-eqb}
 use Rattle.lists.specs.Pick.{pick}
@@ -13,7 +12,6 @@ use Rattle.lists.proofs.Bools.{and-false}
 use Rattle.geometry.specs.declared.Rect.{Rect}
 use Rattle.geometry.specs.Boxes.{sameEdges}
 use Rattle.operand_equality.specs.Operands.{sameClips}
-use Rattle.rect_words.specs.Words.{rectAt}
 use Rattle.clips.specs.Chains.{clipAt, belowAt, chainFrom, chain, Chained, Rooted}
 
 -- ---- lists compared at their last place

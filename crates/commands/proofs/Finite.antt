@@ -16,7 +16,6 @@ use Rattle.floats.proofs.Orders.{larger-rank, smaller-rank, larger-ordered, sma
 use Rattle.geometry.specs.declared.Rect.{Rect}
 use Rattle.geometry.proofs.Edges.{Edges, Ordered}
 use Rattle.affine.specs.declared.Affine.{Affine}
-use Rattle.affine.specs.declared.Point.{Point}
 use Rattle.affine.specs.declared.Transformed.the-variants.{Finite, NotFinite}
 use Rattle.affine.specs.Affines.{_⊕_, _⊗_, least, greatest, transformPoint, boundingBox, transformRectBbox, finitePoint, boundFinite, tryTransform}
 use Rattle.affine.proofs.Corners.{bound-edges, try-is, try-finite}

@@ -1,5 +1,5 @@
 -- Boxes of commands are functions of values: operands that differ in the signs of zeros alone give boxes that do. Assumes nothing.
-use mathlib.Core.Path.{_≡_, refl, ap, subst, _∙_}
+use mathlib.Core.Path.{_≡_, refl, subst}
 use mathlib.Core.List.{List, [], _∷_}
 use mathlib.Core.Logic.{inl}
 use Prim.Native.Nat.{_<_}

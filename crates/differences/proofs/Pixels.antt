@@ -1,8 +1,8 @@
 -- D2: a pixel that meets no box of the difference of two boxes, either way round. Then neither touches it, or both cut its square to the same part.
 -- Assumes nothing.
-use mathlib.Core.Path.{_≡_, refl, subst}
+use mathlib.Core.Path.{_≡_, refl}
 use mathlib.Core.Bool.{Bool, true, false}
-use mathlib.Core.List.{List, [], _∷_, _++_}
+use mathlib.Core.List.{List, [], _∷_}
 use mathlib.Core.Logic.{_⊎_, inl}
 use Prim.Native.Nat.{ℕ, _^_, _<_}
 use lib.Dec.{T}

@@ -4,7 +4,7 @@ use mathlib.Core.Bool.{Bool, true, false}
 use mathlib.Core.List.{List, [], _∷_, _++_}
 use Prim.Native.Nat.{ℕ, zero, suc, _+_, _-_, _*_, _/_, _≤_, _<_}
 use native.Mathlib.Omega.{arith}
-use lib.Dec.{eqb, leb}
+use lib.Dec.{eqb}
 use lib.ListN.{length, take, set, length-set, length-append}
 use lib.Seq.{take-at}
 use lib.Ieee.{Float}
@@ -17,7 +17,7 @@ use Rattle.affine.specs.Affines.{transformRectBbox}
 use Rattle.affine.proofs.Corners.{try-is}
 use Rattle.commands.specs.declared.Glyph.{Glyph}
 use Rattle.commands.specs.declared.DrawCommand.{DrawCommand}
-use Rattle.commands.specs.Bounds.{Command, transformOf, glyphCount, united, localBounds, localWith, tryWith, clipped, bounds, glyphBounds}
+use Rattle.commands.specs.Bounds.{transformOf, glyphCount, united, localBounds, localWith, tryWith, clipped, bounds, glyphBounds}
 use Rattle.commands.proofs.Runs.{local-is}
 use Rattle.clips.specs.Chains.{clipRect, clipAt, belowAt, chain, Clips, putClip, Room}
 use Rattle.clips.proofs.Chaining.{clip-rect-is, chain-none, chain-step, put-kept, put-chain, put-clips, no-clips, length-clip}

@@ -4,7 +4,7 @@ use mathlib.Core.Bool.{true, _&&_}
 use mathlib.Core.List.{List}
 use Prim.Native.Nat.{ℕ, _+_, _*_, _/_, _≤_, _<_}
 use native.Mathlib.Omega.{arith}
-use lib.Dec.{T, leb, ltb}
+use lib.Dec.{leb, ltb}
 use lib.ListN.{length}
 use lib.Ieee.{Float}
 use lib.Ieee.Fits.{and-l, and-r}

@@ -1,6 +1,6 @@
 -- Equal commands have equal boxes, by value, and so have the parts of commands that are alike. Every float compared is an f64 and no NaN. Assumes nothing.
 use mathlib.Core.Path.{_≡_, refl, sym}
-use mathlib.Core.Bool.{Bool, true, false, _&&_, true≢false}
+use mathlib.Core.Bool.{Bool, true, _&&_, true≢false}
 use mathlib.Core.List.{List, [], _∷_}
 use Prim.Native.Nat.{ℕ}
 use lib.Dec.{T, eqb}
@@ -27,8 +27,8 @@ use Rattle.commands.specs.declared.DrawCommand.the-variants.{FillPath, StrokePa
 use Rattle.commands.specs.Strokes.{strokeBoundsInflation}
 use Rattle.commands.specs.Bounds.{Command, transformOf, united, localBounds, bounds, glyphBounds}
 use Rattle.commands.proofs.Values.{Entries, DrawFloats, Floats, SameStroke, inflation-same, SameBoxes, SameInk, united-same, bounds-same, glyph-bounds-same}
-use Rattle.operand_equality.specs.Operands.{sameAffine, joinCode, capCode, sameCap, sameStroke, sameBits, sameGlyph, equalGlyph, samePath, equalGlyphs, sameClips}
-use Rattle.equality.specs.Drawings.{sameFill, sameStroked, sameRun, sameScene, runAlike, sameDrawing, fillsAlike, runsAlike, equal, runsAlikeClipped}
+use Rattle.operand_equality.specs.Operands.{sameAffine, joinCode, sameCap, sameStroke, sameBits, sameGlyph, equalGlyph, samePath, equalGlyphs, sameClips}
+use Rattle.equality.specs.Drawings.{sameFill, sameStroked, sameRun, sameScene, runAlike, sameDrawing, runsAlike, equal, runsAlikeClipped}
 
 -- the property of every float
 abbrev pub Good : Float → Type 0

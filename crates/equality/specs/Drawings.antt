@@ -1,5 +1,5 @@
 -- Commands compared: when two are equal, and when two fills or two runs are alike.
-use mathlib.Core.Bool.{Bool, true, false, _&&_}
+use mathlib.Core.Bool.{Bool, false, _&&_}
 use Prim.Native.Nat.{ℕ}
 use lib.Dec.{eqb}
 use lib.Ieee.{Float, eq}

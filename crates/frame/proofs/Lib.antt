@@ -1,0 +1,2 @@
+-- Laws of whole inputs, for those that read them.
+pub mod Checks
