@@ -1,0 +1,4 @@
+-- Laws of reading, for those who read whole inputs.
+pub mod Steps
+pub mod Limits
+pub mod Numbers

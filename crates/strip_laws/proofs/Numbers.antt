@@ -1,0 +1,134 @@
+-- Every float that is decoded is finite, so every command that is read is made of finite floats, and so is every open clip. Assumes nothing.
+use mathlib.Core.List.{List, [], _∷_}
+use Prim.Native.Nat.{ℕ, zero, suc, _+_, _-_}
+use lib.Dec.{leb, eqb}
+use lib.ListN.{length, getD}
+use lib.Ieee.{binary64, ofBits}
+use lib.Ieee.Bits.{ofBits-fits}
+use lib.Ieee.Scale.{finite}
+use Rattle.lists.specs.Members.{All}
+use Rattle.lists.proofs.Bools.{holds}
+use Rattle.lists.proofs.Picks.{pick-cases}
+use Rattle.lists.proofs.Members.{all-append, all-take}
+use Rattle.little_endian.specs.Words.{u64At, f64At, finiteOr}
+use Rattle.geometry.specs.declared.Rect.{Rect}
+use Rattle.geometry.proofs.Edges.{Edges}
+use Rattle.commands.specs.declared.DrawCommand.{DrawCommand}
+use Rattle.commands.specs.Bounds.{Command, glyphCount}
+use Rattle.commands.proofs.Finite.{Number}
+use Rattle.commands.proofs.Values.{Entries, DrawFloats, Floats}
+use Rattle.strip_format.specs.Format.{lengthOf, rectAt, affineAt, blank, commandAt, glyphsFrom}
+use Rattle.strip.specs.declared.Cursor.{Cursor}
+use Rattle.strip.specs.declared.Step.{Step}
+use Rattle.strip.specs.declared.Step.the-variants.{Next, Clip, Pop, Draw, End, Refused}
+use Rattle.strip.specs.Steps.{startAt, stepAt}
+use Rattle.strip_laws.proofs.Steps.{by-cases}
+use Rattle.strip.specs.Reading.{commandOf, Listing, noted, onNext, listFrom, commandsOf}
+
+-- ---- floats, by where they stand
+zero-number : Number (ofBits binary64 0)
+unfolding ofBits
+zero-number = (tt, ofBits-fits binary64 0)
+
+number-of : (n : ℕ) → Number (finiteOr binary64 n)
+unfolding finiteOr
+number-of n = pick-cases Number (finite (ofBits binary64 n)) (ofBits binary64 n) (ofBits binary64 0) (λ e. (holds (finite (ofBits binary64 n)) e, ofBits-fits binary64 n)) (λ e. zero-number)
+
+pub number-at : (s : List ℕ) (at : ℕ) → Number (f64At s at)
+number-at s at = number-of (u64At s at)
+
+pub rect-numbers : (s : List ℕ) (at : ℕ) → Edges Number (rectAt s at)
+rect-numbers s at = record { x0 = number-at s at; y0 = number-at s (at + 8); x1 = number-at s (at + 16); y1 = number-at s (at + 24) }
+
+entry-numbers : (s : List ℕ) (at : ℕ) → Entries Number (affineAt s at)
+entry-numbers s at = record { a = number-at s at; b = number-at s (at + 8); c = number-at s (at + 16); d = number-at s (at + 24); e = number-at s (at + 32); f = number-at s (at + 40) }
+
+-- ---- commands
+abbrev D : DrawCommand → Type 0
+D d = DrawFloats Number d
+
+none : D blank
+none =
+    let z = zero-number in
+    (record { x0 = z; y0 = z; x1 = z; y1 = z }, record { a = z; b = z; c = z; d = z; e = z; f = z })
+
+pub draw-numbers : (s : List ℕ) (at : ℕ) → DrawFloats Number (commandAt s at)
+unfolding commandAt
+draw-numbers s at =
+    pick-cases D (leb (at + lengthOf (getD s at 0)) (length s)) _ _
+    (λ e. pick-cases D (eqb (getD s at 0) 3) _ _ (λ e. (rect-numbers s (at + 9), entry-numbers s (at + 41)))
+    λ e. pick-cases D (eqb (getD s at 0) 4) _ _ (λ e. (rect-numbers s (at + 9), entry-numbers s (at + 41), number-at s (at + 97), number-at s (at + 97 + 9)))
+    λ e. pick-cases D (eqb (getD s at 0) 5) _ _ (λ e. (rect-numbers s (at + 69), entry-numbers s (at + 13)))
+    λ e. pick-cases D (eqb (getD s at 0) 7) _ _ (λ e. (rect-numbers s (at + 73), entry-numbers s (at + 25))) (λ e. none))
+    (λ e. none)
+
+glyph-numbers : (s : List ℕ) (at n : ℕ) → All (λ g. Edges Number (g .bounds)) (glyphsFrom s at n)
+unfolding glyphsFrom All
+glyph-numbers s at zero = tt
+glyph-numbers s at (suc n) = (rect-numbers s (at + 13), glyph-numbers s (at + 45) n)
+
+command-numbers : (s : List ℕ) (at : ℕ) (under : List Rect) → All (Edges Number) under → Floats Number (commandOf s at under)
+command-numbers s at under h = record { draw = draw-numbers s at; glyphs = glyph-numbers s (at + 103) (glyphCount (commandAt s at)); clips = h }
+
+-- ---- steps: what a CLIP opens has finite edges
+abbrev Opens : Step → Type 0
+Opens (Next t) = Unit {0}
+Opens (Clip t box) = Edges Number box
+Opens (Pop t) = Unit {0}
+Opens (Draw t at box) = Unit {0}
+Opens (End t) = Unit {0}
+Opens (Refused n p) = Unit {0}
+
+step-opens : (s : List ℕ) (st : Cursor) → Opens (stepAt s st)
+step-opens s st = by-cases s st Opens record {
+  refused = λ n p. tt;
+  ended = tt;
+  clip = λ d c. rect-numbers s (st .at + 1);
+  pop = λ d. tt;
+  draw = λ len c box f. tt;
+  run = λ c. tt;
+  glyph = λ g. tt;
+  last = λ g d box f. tt;
+}
+
+-- ---- the list
+pub record Numbers (l : Listing) : Type 0 where
+  pub clips : All (Edges Number) (l .clips)
+  pub commands : All (Floats Number) (l .commands)
+
+one-rect : (b : Rect) → Edges Number b → All (Edges Number) (b ∷ [])
+unfolding All
+one-rect b h = (h, tt)
+
+one-command : (c : Command) → Floats Number c → All (Floats Number) (c ∷ [])
+unfolding All
+one-command c h = (h, tt)
+
+noted-numbers : (s : List ℕ) (l : Listing) (x : Step) → Opens x → Numbers l → Numbers (noted s l x)
+noted-numbers s l (Next t) o h = h
+noted-numbers s l (Clip t box) o h = record { clips = all-append (Edges Number) (l .clips) (box ∷ []) (h .clips) (one-rect box o); commands = h .commands }
+noted-numbers s l (Pop t) o h = record { clips = all-take (Edges Number) (length (l .clips) - 1) (l .clips) (h .clips); commands = h .commands }
+noted-numbers s l (Draw t at box) o h = record { clips = h .clips; commands = all-append (Floats Number) (l .commands) (commandOf s at (l .clips) ∷ []) (h .commands) (one-command (commandOf s at (l .clips)) (command-numbers s at (l .clips) (h .clips))) }
+noted-numbers s l (End t) o h = h
+noted-numbers s l (Refused n p) o h = h
+
+next-numbers : (x : Step) (l : Listing) (k : Cursor → Listing) → Numbers l → ((t : Cursor) → Numbers (k t)) → Numbers (onNext x l k)
+next-numbers (Next t) l k h f = f t
+next-numbers (Clip t box) l k h f = f t
+next-numbers (Pop t) l k h f = f t
+next-numbers (Draw t at box) l k h f = f t
+next-numbers (End t) l k h f = h
+next-numbers (Refused n p) l k h f = h
+
+list-numbers : (n : ℕ) (s : List ℕ) (st : Cursor) (l : Listing) → Numbers l → Numbers (listFrom n s st l)
+unfolding listFrom
+list-numbers zero s st l h = h
+list-numbers (suc n) s st l h = next-numbers (stepAt s st) l (λ t. listFrom n s t (noted s l (stepAt s st))) h (λ t. list-numbers n s t (noted s l (stepAt s st)) (noted-numbers s l (stepAt s st) (step-opens s st) h))
+
+no-numbers : Numbers (record { clips = []; commands = [] })
+unfolding All
+no-numbers = record { clips = tt; commands = tt }
+
+-- document 01's number 4 turns away what is not finite; what is listed is finite all the same, whatever the bytes
+pub strip-numbers : (s : List ℕ) (at : ℕ) → All (Floats Number) (commandsOf s at)
+strip-numbers s at = list-numbers (suc (length s)) s (startAt at) (record { clips = []; commands = [] }) no-numbers .commands

@@ -1,0 +1,130 @@
+-- A property of steps, case by case; and what every step keeps, reading keeps. Assumes nothing.
+use mathlib.Core.Path.{_≡_, refl}
+use mathlib.Core.List.{List}
+use Prim.Native.Nat.{ℕ, zero, suc, _+_, _-_, _<_}
+use lib.Dec.{leb, ltb, eqb}
+use lib.ListN.{length, getD}
+use borrow.Author.Tests.{leb-false, eqb-true, eqb-false}
+use Rattle.lists.proofs.Picks.{pick-cases}
+use Rattle.little_endian.specs.Words.{u16At}
+use Rattle.geometry.specs.declared.Rect.{Rect}
+use Rattle.affine.specs.declared.Transformed.{Transformed}
+use Rattle.affine.specs.declared.Transformed.the-variants.{Finite, NotFinite}
+use Rattle.affine.specs.Affines.{tryTransform}
+use Rattle.commands.specs.Bounds.{transformOf, tryWith}
+use Rattle.strip_format.specs.Format.{lengthOf, rectAt, commandAt}
+use Rattle.operand_checks.specs.Operands.{operandsAt}
+use Rattle.strip.specs.declared.Cursor.{Cursor}
+use Rattle.strip.specs.declared.Step.{Step}
+use Rattle.strip.specs.declared.Step.the-variants.{Next, Clip, Pop, Draw, End, Refused}
+use Rattle.strip.specs.declared.Answer.{Answer}
+use Rattle.strip.specs.Steps.{dueFits, onBox, clipStep, popStep, drawn, drawStep, runStep, unite, glyphRead, lastStep, glyphStep, endStep, effectOf, stepAt}
+use Rattle.strip.specs.Reading.{onStep, readFrom}
+use Rattle.strip_laws.specs.Limits.{WhereRead}
+
+-- ---- case by case
+-- the cursor behind a CLIP, and behind a POP
+abbrev pub opened : Cursor → Cursor
+opened st = record { at = st .at + 33; depth = st .depth + 1; clips = st .clips + 1; commands = st .commands; glyphs = st .glyphs; due = st .due; run = st .run; united = st .united }
+
+abbrev pub closed : Cursor → Cursor
+closed st = record { at = st .at + 1; depth = st .depth - 1; clips = st .clips; commands = st .commands; glyphs = st .glyphs; due = st .due; run = st .run; united = st .united }
+
+-- M holds of every step that may be taken at a cursor
+pub record Cases (s : List ℕ) (st : Cursor) (M : Step → Type 0) : Type 0 where
+  pub refused : (n p : ℕ) → M (Refused n p)
+  pub ended : M (endStep st)
+  pub clip : st .depth < 32 → st .clips < 4096 → M (Clip (opened st) (rectAt s (st .at + 1)))
+  pub pop : (st .depth ≡ 0 → ⊥) → M (Pop (closed st))
+  pub draw : (len : ℕ) → st .commands < 4096 → (box : Rect) → tryWith (commandAt s (st .at)) (st .united) ≡ Finite box → M (Draw (drawn st len 0) (st .at) box)
+  pub run : st .commands < 4096 → M (Next (drawn st 103 (u16At s (st .at + 101))))
+  pub glyph : st .glyphs < 16384 → M (Next (glyphRead st (rectAt s (st .at + 13))))
+  pub last : st .glyphs < 16384 → st .due ≡ 1 → (box : Rect) → tryTransform (transformOf (commandAt s (st .run))) (unite st (rectAt s (st .at + 13))) ≡ Finite box → M (Draw (glyphRead st (rectAt s (st .at + 13))) (st .run) box)
+
+module _ (s : List ℕ) (st : Cursor) (M : Step → Type 0) (cases : Cases s st M) where
+  on-box : (r : Transformed) (k : Rect → Step) → ((box : Rect) → r ≡ Finite box → M (k box)) → M (onBox (st .at) r k)
+  on-box (Finite box) k h = h box refl
+  on-box NotFinite k h = cases .refused 9 (st .at)
+
+  of-clip : M (clipStep s st)
+  unfolding clipStep
+  of-clip =
+      pick-cases M (leb 32 (st .depth)) _ _ (λ e. cases .refused 6 (st .at))
+      λ e. pick-cases M (leb 4096 (st .clips)) _ _ (λ e. cases .refused 6 (st .at)) (λ f. cases .clip (leb-false 32 (st .depth) e) (leb-false 4096 (st .clips) f))
+
+  of-pop : M (popStep st)
+  unfolding popStep
+  of-pop = pick-cases M (eqb (st .depth) 0) _ _ (λ e. cases .refused 5 (st .at)) (λ e. cases .pop (eqb-false (st .depth) 0 e))
+
+  of-draw : (len : ℕ) → M (drawStep s st len)
+  unfolding drawStep
+  of-draw len =
+      pick-cases M (leb 4096 (st .commands)) _ _ (λ e. cases .refused 6 (st .at))
+      λ e. on-box (tryWith (commandAt s (st .at)) (st .united)) (λ box. Draw (drawn st len 0) (st .at) box) (λ box f. cases .draw len (leb-false 4096 (st .commands) e) box f)
+
+  of-run : M (runStep s st)
+  unfolding runStep
+  of-run =
+      pick-cases M (eqb (u16At s (st .at + 101)) 0) _ _ (λ e. of-draw 103)
+      λ e. pick-cases M (leb 4096 (st .commands)) _ _ (λ e. cases .refused 6 (st .at)) (λ e. cases .run (leb-false 4096 (st .commands) e))
+
+  of-last : st .glyphs < 16384 → M (lastStep s st (rectAt s (st .at + 13)))
+  unfolding lastStep
+  of-last h =
+      pick-cases M (eqb (st .due) 1) _ _
+      (λ e. on-box (tryTransform (transformOf (commandAt s (st .run))) (unite st (rectAt s (st .at + 13)))) (λ box. Draw (glyphRead st (rectAt s (st .at + 13))) (st .run) box) (λ box f. cases .last h (eqb-true (st .due) 1 e) box f))
+      (λ e. cases .glyph h)
+
+  of-glyph : M (glyphStep s st)
+  unfolding glyphStep
+  of-glyph =
+      pick-cases M (leb 16384 (st .glyphs)) _ _ (λ e. cases .refused 6 (st .at))
+      λ e. on-box (tryTransform (transformOf (commandAt s (st .run))) (rectAt s (st .at + 13))) (λ own. lastStep s st (rectAt s (st .at + 13))) (λ own f. of-last (leb-false 16384 (st .glyphs) e))
+
+  of-effect : (b : ℕ) → M (effectOf s st b)
+  unfolding effectOf
+  of-effect b =
+      pick-cases M (eqb b 0) _ _ (λ e. cases .ended)
+      λ e. pick-cases M (eqb b 1) _ _ (λ e. of-clip)
+      λ e. pick-cases M (eqb b 2) _ _ (λ e. of-pop)
+      λ e. pick-cases M (eqb b 5) _ _ (λ e. of-run)
+      λ e. pick-cases M (eqb b 6) _ _ (λ e. of-glyph) (λ e. of-draw (lengthOf b))
+
+  pub by-cases : M (stepAt s st)
+  unfolding stepAt
+  by-cases =
+      pick-cases M (ltb (st .at) (length s)) _ _
+      (λ e. pick-cases M (leb b 7) _ _
+      (λ e. pick-cases M (dueFits b (st .due)) _ _
+      (λ e. pick-cases M (ltb (length s - st .at) (lengthOf b)) _ _ (λ e. cases .refused 2 (st .at))
+      (λ e. pick-cases M (eqb (operandsAt s (st .at) b) 0) _ _ (λ e. of-effect b) (λ e. cases .refused (operandsAt s (st .at) b) (st .at))))
+      (λ e. cases .refused 7 (st .at)))
+      (λ e. cases .refused 3 (st .at)))
+      (λ e. cases .refused 2 (length s))
+    where
+      b : ℕ
+      b = getD s (st .at) 0
+
+-- ---- reading
+-- the cursor that a step goes on with has one property, the one that it ends with another
+abbrev pub Kept : (Cursor → Type 0) → (Cursor → Type 0) → Step → Type 0
+Kept P Q (Next t) = P t
+Kept P Q (Clip t box) = P t
+Kept P Q (Pop t) = P t
+Kept P Q (Draw t at box) = P t
+Kept P Q (End t) = Q t
+Kept P Q (Refused n p) = Unit {0}
+
+module _ (P Q : Cursor → Type 0) where
+  on-step : (x : Step) (k : Cursor → Answer) → Kept P Q x → ((t : Cursor) → P t → WhereRead Q (k t)) → WhereRead Q (onStep x k)
+  on-step (Next t) k h f = f t h
+  on-step (Clip t box) k h f = f t h
+  on-step (Pop t) k h f = f t h
+  on-step (Draw t at box) k h f = f t h
+  on-step (End t) k h f = h
+  on-step (Refused n p) k h f = tt
+
+  pub read-keeps : (s : List ℕ) → ((st : Cursor) → P st → Kept P Q (stepAt s st)) → (n : ℕ) (st : Cursor) → P st → WhereRead Q (readFrom n s st)
+  unfolding readFrom
+  read-keeps s f zero st h = tt
+  read-keeps s f (suc n) st h = on-step (stepAt s st) (λ t. readFrom n s t) (f st h) (λ t k. read-keeps s f n t k)

@@ -1,0 +1,23 @@
+-- The words of the laws of reading. Document 01's number 6: "33rd open clip, 4,097th clip pushed", "4,097th drawing command",
+-- "16,385th glyph of a frame".
+use Prim.Native.Nat.{ℕ, _≤_, _<_}
+use Rattle.strip.specs.declared.Cursor.{Cursor}
+use Rattle.strip.specs.declared.Answer.{Answer}
+use Rattle.strip.specs.declared.Answer.the-variants.{Read, Refused}
+
+-- a cursor whose counts no number 6 forbids
+pub record Within (st : Cursor) : Type 0 where
+  pub depth : st .depth ≤ 32
+  pub clips : st .clips ≤ 4096
+  pub commands : st .commands ≤ 4096
+  pub glyphs : st .glyphs ≤ 16384
+
+-- where a strip is read, its cursor has a property
+abbrev pub WhereRead : (Cursor → Type 0) → Answer → Type 0
+WhereRead P (Read t) = P t
+WhereRead P (Refused n p) = Unit {0}
+
+-- the cursor behind the END of a strip that begins at an offset, in n bytes
+pub record Passed (at n : ℕ) (t : Cursor) : Type 0 where
+  pub some : at < t .at
+  pub inside : t .at ≤ n

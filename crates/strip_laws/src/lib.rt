@@ -1,0 +1,1 @@
+// No code: the laws of reading a strip, in proofs/.
