@@ -2,3 +2,5 @@
 pub mod Steps
 pub mod Limits
 pub mod Numbers
+pub mod Alike
+pub mod Fronts

@@ -20,7 +20,7 @@ step-within s st w = by-cases s st (Kept Within Within) record {
   clip = λ d c. record { depth = omega arith; clips = omega arith; commands = w .commands; glyphs = w .glyphs };
   pop = λ d. record { depth = omega (arith, w .depth); clips = w .clips; commands = w .commands; glyphs = w .glyphs };
   draw = λ len c box f. record { depth = w .depth; clips = w .clips; commands = omega arith; glyphs = w .glyphs };
-  run = λ c. record { depth = w .depth; clips = w .clips; commands = omega arith; glyphs = w .glyphs };
+  run = λ c is fits. record { depth = w .depth; clips = w .clips; commands = omega arith; glyphs = w .glyphs };
   glyph = λ g. record { depth = w .depth; clips = w .clips; commands = w .commands; glyphs = omega arith };
   last = λ g d box f. record { depth = w .depth; clips = w .clips; commands = w .commands; glyphs = omega arith };
 }

@@ -86,7 +86,7 @@ step-opens s st = by-cases s st Opens record {
   clip = λ d c. rect-numbers s (st .at + 1);
   pop = λ d. tt;
   draw = λ len c box f. tt;
-  run = λ c. tt;
+  run = λ c is fits. tt;
   glyph = λ g. tt;
   last = λ g d box f. tt;
 }

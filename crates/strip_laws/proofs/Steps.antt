@@ -1,10 +1,11 @@
 -- A property of steps, case by case; and what every step keeps, reading keeps. Assumes nothing.
-use mathlib.Core.Path.{_≡_, refl}
+use mathlib.Core.Path.{_≡_, refl, _∙_, subst}
 use mathlib.Core.List.{List}
-use Prim.Native.Nat.{ℕ, zero, suc, _+_, _-_, _<_}
+use Prim.Native.Nat.{ℕ, zero, suc, _+_, _-_, _≤_, _<_}
+use native.Mathlib.Omega.{arith}
 use lib.Dec.{leb, ltb, eqb}
 use lib.ListN.{length, getD}
-use borrow.Author.Tests.{leb-false, eqb-true, eqb-false}
+use borrow.Author.Tests.{leb-false, ltb-true, ltb-false, eqb-true, eqb-false}
 use Rattle.lists.proofs.Picks.{pick-cases}
 use Rattle.little_endian.specs.Words.{u16At}
 use Rattle.geometry.specs.declared.Rect.{Rect}
@@ -13,6 +14,7 @@ use Rattle.affine.specs.declared.Transformed.the-variants.{Finite, NotFinite}
 use Rattle.affine.specs.Affines.{tryTransform}
 use Rattle.commands.specs.Bounds.{transformOf, tryWith}
 use Rattle.strip_format.specs.Format.{lengthOf, rectAt, commandAt}
+use Rattle.strip_format.proofs.Lengths.{length-run}
 use Rattle.operand_checks.specs.Operands.{operandsAt}
 use Rattle.strip.specs.declared.Cursor.{Cursor}
 use Rattle.strip.specs.declared.Step.{Step}
@@ -37,7 +39,7 @@ pub record Cases (s : List ℕ) (st : Cursor) (M : Step → Type 0) : Type 0 whe
   pub clip : st .depth < 32 → st .clips < 4096 → M (Clip (opened st) (rectAt s (st .at + 1)))
   pub pop : (st .depth ≡ 0 → ⊥) → M (Pop (closed st))
   pub draw : (len : ℕ) → st .commands < 4096 → (box : Rect) → tryWith (commandAt s (st .at)) (st .united) ≡ Finite box → M (Draw (drawn st len 0) (st .at) box)
-  pub run : st .commands < 4096 → M (Next (drawn st 103 (u16At s (st .at + 101))))
+  pub run : st .commands < 4096 → getD s (st .at) 0 ≡ 5 → st .at + 103 ≤ length s → M (Next (drawn st 103 (u16At s (st .at + 101))))
   pub glyph : st .glyphs < 16384 → M (Next (glyphRead st (rectAt s (st .at + 13))))
   pub last : st .glyphs < 16384 → st .due ≡ 1 → (box : Rect) → tryTransform (transformOf (commandAt s (st .run))) (unite st (rectAt s (st .at + 13))) ≡ Finite box → M (Draw (glyphRead st (rectAt s (st .at + 13))) (st .run) box)
 
@@ -62,11 +64,11 @@ module _ (s : List ℕ) (st : Cursor) (M : Step → Type 0) (cases : Cases s st 
       pick-cases M (leb 4096 (st .commands)) _ _ (λ e. cases .refused 6 (st .at))
       λ e. on-box (tryWith (commandAt s (st .at)) (st .united)) (λ box. Draw (drawn st len 0) (st .at) box) (λ box f. cases .draw len (leb-false 4096 (st .commands) e) box f)
 
-  of-run : M (runStep s st)
+  of-run : getD s (st .at) 0 ≡ 5 → st .at + 103 ≤ length s → M (runStep s st)
   unfolding runStep
-  of-run =
+  of-run is fits =
       pick-cases M (eqb (u16At s (st .at + 101)) 0) _ _ (λ e. of-draw 103)
-      λ e. pick-cases M (leb 4096 (st .commands)) _ _ (λ e. cases .refused 6 (st .at)) (λ e. cases .run (leb-false 4096 (st .commands) e))
+      λ e. pick-cases M (leb 4096 (st .commands)) _ _ (λ e. cases .refused 6 (st .at)) (λ e. cases .run (leb-false 4096 (st .commands) e) is fits)
 
   of-last : st .glyphs < 16384 → M (lastStep s st (rectAt s (st .at + 13)))
   unfolding lastStep
@@ -81,23 +83,23 @@ module _ (s : List ℕ) (st : Cursor) (M : Step → Type 0) (cases : Cases s st 
       pick-cases M (leb 16384 (st .glyphs)) _ _ (λ e. cases .refused 6 (st .at))
       λ e. on-box (tryTransform (transformOf (commandAt s (st .run))) (rectAt s (st .at + 13))) (λ own. lastStep s st (rectAt s (st .at + 13))) (λ own f. of-last (leb-false 16384 (st .glyphs) e))
 
-  of-effect : (b : ℕ) → M (effectOf s st b)
+  of-effect : (b : ℕ) → getD s (st .at) 0 ≡ b → st .at + lengthOf b ≤ length s → M (effectOf s st b)
   unfolding effectOf
-  of-effect b =
+  of-effect b is fits =
       pick-cases M (eqb b 0) _ _ (λ e. cases .ended)
       λ e. pick-cases M (eqb b 1) _ _ (λ e. of-clip)
       λ e. pick-cases M (eqb b 2) _ _ (λ e. of-pop)
-      λ e. pick-cases M (eqb b 5) _ _ (λ e. of-run)
+      λ e. pick-cases M (eqb b 5) _ _ (λ e. let k = eqb-true b 5 e in of-run (is ∙ k) (omega (arith, subst (λ (y : ℕ). st .at + lengthOf y ≤ length s) k fits, length-run)))
       λ e. pick-cases M (eqb b 6) _ _ (λ e. of-glyph) (λ e. of-draw (lengthOf b))
 
   pub by-cases : M (stepAt s st)
   unfolding stepAt
   by-cases =
       pick-cases M (ltb (st .at) (length s)) _ _
-      (λ e. pick-cases M (leb b 7) _ _
+      (λ a. pick-cases M (leb b 7) _ _
       (λ e. pick-cases M (dueFits b (st .due)) _ _
       (λ e. pick-cases M (ltb (length s - st .at) (lengthOf b)) _ _ (λ e. cases .refused 2 (st .at))
-      (λ e. pick-cases M (eqb (operandsAt s (st .at) b) 0) _ _ (λ e. of-effect b) (λ e. cases .refused (operandsAt s (st .at) b) (st .at))))
+      (λ l. pick-cases M (eqb (operandsAt s (st .at) b) 0) _ _ (λ e. of-effect b refl (omega (arith, ltb-true (st .at) (length s) a, ltb-false (length s - st .at) (lengthOf b) l))) (λ e. cases .refused (operandsAt s (st .at) b) (st .at))))
       (λ e. cases .refused 7 (st .at)))
       (λ e. cases .refused 3 (st .at)))
       (λ e. cases .refused 2 (length s))
