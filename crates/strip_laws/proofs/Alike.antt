@@ -12,7 +12,7 @@ use borrow.Author.Tests.{le-leb, eqb-true}
 use Rattle.lists.specs.Pick.{pick}
 use Rattle.little_endian.specs.Words.{u16At, u32At, u64At, f32At, f64At, finiteOr}
 use Rattle.commands.specs.declared.DrawCommand.the-variants.{FillPath, StrokePath, GlyphRun, Scene}
-use Rattle.strip_format.specs.Format.{lengthOf, rectAt, affineAt, joinOf, capOf, strokeAt, fillAt, strokePathAt, runAt, sceneAt, commandAt}
+use Rattle.strip_format.specs.Format.{lengthOf, rectAt, affineAt, joinOf, capOf, strokeAt, fillAt, strokePathAt, runAt, sceneAt, commandAt, glyphAt}
 use Rattle.strip_format.proofs.Lengths.{length-pos, length-clip, length-fill, length-stroke, length-run, length-glyph, length-scene}
 use Rattle.operand_checks.specs.Operands.{finiteFrom, finiteF32, finiteStroke, finiteRun, finiteGlyph, codesFit, operandsAt}
 
@@ -76,6 +76,14 @@ module _ (s r : List ℕ) (n : ℕ) (same : (i : ℕ) → i < n → getD s i 0 �
       let q = same (at + 18) (omega arith) in
       let d = u64-same (at + 19) (omega arith) in
       λ i. record { width = w i; join = joinOf (j i); «miter_limit» = l i; «start_cap» = capOf (p i); «end_cap» = capOf (q i); dash = d i }
+
+  pub glyph-same-at : (at : ℕ) → at + 45 ≤ n → glyphAt s at ≡ glyphAt r at
+  glyph-same-at at h =
+      let d = u32-same (at + 1) (omega arith) in
+      let x = f32-same (at + 5) (omega arith) in
+      let y = f32-same (at + 9) (omega arith) in
+      let b = rect-same (at + 13) (omega arith) in
+      λ i. record { id = d i; x = x i; y = y i; bounds = b i }
 
   -- ---- commands
   fill-same : (at : ℕ) → at + 97 ≤ n → fillAt s at ≡ fillAt r at

@@ -1,17 +1,19 @@
 -- P1: a strip that is read alone is read alike in front of other bytes, with the same commands. Assumes nothing.
 use mathlib.Core.Path.{_≡_, refl, sym, ap, _∙_, subst}
 use mathlib.Core.Bool.{true}
-use mathlib.Core.List.{List, _++_}
-use Prim.Native.Nat.{ℕ, zero, suc, _+_, _-_, _≤_, _<_}
+use mathlib.Core.List.{List, [], _∷_, _++_}
+use Prim.Native.Nat.{ℕ, zero, suc, _+_, _-_, _*_, _≤_, _<_}
 use native.Mathlib.Omega.{arith}
 use lib.Dec.{leb, ltb, eqb}
 use lib.ListN.{length, getD, length-append, List·getD-append}
 use borrow.Author.Tests.{leb-true, ltb-true, ltb-false, eqb-true}
 use Rattle.lists.specs.Pick.{pick}
 use Rattle.lists.proofs.Picks.{pick-cases}
+use Rattle.geometry.specs.declared.Rect.{Rect}
 use Rattle.affine.specs.Affines.{tryTransform}
-use Rattle.commands.specs.Bounds.{transformOf, tryWith}
-use Rattle.strip_format.specs.Format.{lengthOf, commandAt}
+use Rattle.commands.specs.declared.DrawCommand.{DrawCommand}
+use Rattle.commands.specs.Bounds.{glyphCount, transformOf, tryWith}
+use Rattle.strip_format.specs.Format.{lengthOf, commandAt, glyphsFrom}
 use Rattle.strip_format.proofs.Lengths.{length-clip, length-run, length-glyph}
 use Rattle.operand_checks.specs.Operands.{operandsAt}
 use Rattle.strip.specs.declared.Cursor.{Cursor}
@@ -20,26 +22,18 @@ use Rattle.strip.specs.declared.Step.the-variants.{Next, Clip, Pop, Draw, End, 
 use Rattle.strip.specs.declared.Answer.{Answer}
 use Rattle.strip.specs.declared.Answer.the-variants.{Read, Refused as TurnedAway}
 use Rattle.strip.specs.Steps.{startAt, dueFits, onBox, clipStep, drawn, drawStep, runStep, unite, glyphRead, lastStep, glyphStep, effectOf, stepAt}
-use Rattle.strip.specs.Reading.{onStep, readFrom, readStrip}
+use Rattle.strip.specs.Reading.{onStep, readFrom, readStrip, commandOf, Listing, noted, onNext, listFrom, commandsOf}
 use Rattle.strip.proofs.Effects.{due-glyph, step-effect}
-use Rattle.strip_laws.proofs.Steps.{opened, by-cases, Kept}
-use Rattle.strip_laws.proofs.Alike.{pick-both, at-byte, u16-same, rect-same, command-same, operands-same}
+use Rattle.strip_laws.proofs.Steps.{opened, Kept}
+use Rattle.strip_laws.proofs.Runs.{InRun, step-in-run, Whole, Draws, step-draws}
+use Rattle.strip_laws.proofs.Alike.{pick-both, at-byte, u16-same, rect-same, glyph-same-at, command-same, operands-same}
 
 -- the run whose glyphs are due stands within the first n bytes
 abbrev Known : List ℕ → ℕ → Cursor → Type 0
 Known s n st = 0 < st .due → st .run + lengthOf (getD s (st .run) 0) ≤ n
 
-step-known : (s : List ℕ) (st : Cursor) → Known s (length s) st → Kept (Known s (length s)) (λ t. Unit {0}) (stepAt s st)
-step-known s st h = by-cases s st (Kept (Known s (length s)) (λ t. Unit {0})) record {
-  refused = λ n p. tt;
-  ended = tt;
-  clip = λ d c. h;
-  pop = λ d. h;
-  draw = λ len c box f. (λ k. absurd (omega arith));
-  run = λ c is fits. (λ k. subst (λ (y : ℕ). st .at + lengthOf y ≤ length s) (sym is) (omega (arith, length-run)));
-  glyph = λ g. (λ k. h (omega arith));
-  last = λ g d box f. (λ k. h (omega arith));
-}
+known : (s : List ℕ) (st : Cursor) → InRun s st → Known s (length s) st
+known s st h k = let b = h k in subst (λ (y : ℕ). st .run + lengthOf y ≤ length s) (sym (b .byte)) (omega (arith, b .fits, length-run))
 
 module _ (s r : List ℕ) (n : ℕ) (same : (i : ℕ) → i < n → getD s i 0 ≡ getD r i 0) (st : Cursor) where
   clip-same : st .at + 33 ≤ n → clipStep s st ≡ clipStep r st
@@ -103,9 +97,9 @@ goes (End t) k c e = tt
 goes (Refused n p) k c e = turned n p c e
 
 module _ (s r : List ℕ) (more : length s ≤ length r) (same : (i : ℕ) → i < length s → getD s i 0 ≡ getD r i 0) where
-  pub step-same : (st : Cursor) → Known s (length s) st → Goes (stepAt s st) → stepAt r st ≡ stepAt s st
+  pub step-same : (st : Cursor) → InRun s st → Goes (stepAt s st) → stepAt r st ≡ stepAt s st
   unfolding stepAt
-  step-same st known =
+  step-same st h =
       pick-cases M (ltb (st .at) (length s)) _ _
       (λ a. pick-cases M (leb b 7) _ _
       (λ e. pick-cases M (dueFits b (st .due)) _ _
@@ -125,28 +119,81 @@ module _ (s r : List ℕ) (more : length s ≤ length r) (same : (i : ℕ) → i
       whole a e d l o =
           let fits : st .at + lengthOf b ≤ length s = omega arith in
           sym (step-effect r st b (sym (same (st .at) a)) (omega arith) e d (operandsAt r (st .at) b) (omega arith) refl (sym (operands-same s r (length s) same (st .at) b fits) ∙ o))
-          ∙ sym (effect-same s r (length s) same st (omega arith) more b refl d known fits)
+          ∙ sym (effect-same s r (length s) same st (omega arith) more b refl d (known s st h) fits)
 
   -- ---- reading, in at least as many steps
   module _ (c : Cursor) where
-    go-on : (k m : ℕ) → ((t : Cursor) → Known s (length s) t → readFrom k s t ≡ Read c → readFrom m r t ≡ Read c) → (x : Step) → Kept (Known s (length s)) (λ t. Unit {0}) x → onStep x (λ t. readFrom k s t) ≡ Read c → onStep x (λ t. readFrom m r t) ≡ Read c
-    go-on k m f (Next t) h e = f t h e
-    go-on k m f (Clip t box) h e = f t h e
-    go-on k m f (Pop t) h e = f t h e
-    go-on k m f (Draw t at box) h e = f t h e
-    go-on k m f (End t) h e = e
-    go-on k m f (Refused n p) h e = e
+    go-read : (k m : ℕ) → ((t : Cursor) → InRun s t → readFrom k s t ≡ Read c → readFrom m r t ≡ Read c) → (x : Step) → Kept (InRun s) (λ t. Unit {0}) x → onStep x (λ t. readFrom k s t) ≡ Read c → onStep x (λ t. readFrom m r t) ≡ Read c
+    go-read k m f (Next t) h e = f t h e
+    go-read k m f (Clip t box) h e = f t h e
+    go-read k m f (Pop t) h e = f t h e
+    go-read k m f (Draw t at box) h e = f t h e
+    go-read k m f (End t) h e = e
+    go-read k m f (Refused n p) h e = e
 
-    read-same : (k m : ℕ) (st : Cursor) → k ≤ m → Known s (length s) st → readFrom k s st ≡ Read c → readFrom m r st ≡ Read c
+    read-same : (k m : ℕ) (st : Cursor) → k ≤ m → InRun s st → readFrom k s st ≡ Read c → readFrom m r st ≡ Read c
     unfolding readFrom
     read-same zero m st l h e = absurd (turned 2 (length s) c e)
     read-same (suc k) zero st l h e = absurd (omega arith)
     read-same (suc k) (suc m) st l h e =
         ap (λ (x : Step). onStep x (λ t. readFrom m r t)) (step-same st h (goes (stepAt s st) (λ t. readFrom k s t) c e))
-        ∙ go-on k m (λ t g f. read-same k m t (omega arith) g f) (stepAt s st) (step-known s st h) e
+        ∙ go-read k m (λ t g f. read-same k m t (omega arith) g f) (stepAt s st) (step-in-run s st h) e
 
--- "a strip accepted alone" is accepted in front of other bytes, and ends at the same cursor
-pub front-read : (s t : List ℕ) (at : ℕ) (c : Cursor) → readStrip s at ≡ Read c → readStrip (s ++ t) at ≡ Read c
-front-read s t at c e =
-    let l : length s ≤ length (s ++ t) = omega (arith, length-append s t) in
-    read-same s (s ++ t) l (λ i h. sym (List·getD-append s t 0 i h)) c (suc (length s)) (suc (length (s ++ t))) (startAt at) (omega arith) (λ k. absurd (omega arith)) e
+    -- ---- the list
+    glyphs-same : (k at : ℕ) → at + 45 * k ≤ length s → glyphsFrom s at k ≡ glyphsFrom r at k
+    unfolding glyphsFrom
+    glyphs-same zero at h = refl
+    glyphs-same (suc k) at h =
+        let g = glyph-same-at s r (length s) same at (omega arith) in
+        let rest = glyphs-same k (at + 45) (omega arith) in
+        λ i. g i ∷ rest i
+
+    glyphs-none : (at : ℕ) → glyphsFrom s at 0 ≡ glyphsFrom r at 0
+    unfolding glyphsFrom
+    glyphs-none at = refl
+
+    some-glyphs : (k at : ℕ) → (0 < k → at + 45 * k ≤ length s) → glyphsFrom s at k ≡ glyphsFrom r at k
+    some-glyphs zero at h = glyphs-none at
+    some-glyphs (suc k) at h = glyphs-same (suc k) at (h (omega arith))
+
+    listed-same : (at : ℕ) (under : List Rect) → Whole s at → commandOf s at under ≡ commandOf r at under
+    listed-same at under w =
+        let d = command-same s r (length s) same at (w .fits) (omega arith) more in
+        let g : glyphsFrom s (at + 103) (glyphCount (commandAt s at)) ≡ glyphsFrom r (at + 103) (glyphCount (commandAt r at)) = some-glyphs (glyphCount (commandAt s at)) (at + 103) (w .glyphs) ∙ ap (λ (x : DrawCommand). glyphsFrom r (at + 103) (glyphCount x)) d in
+        λ i. record { draw = d i; glyphs = g i; clips = under }
+
+    noted-same : (l : Listing) (x : Step) → Draws s x → noted s l x ≡ noted r l x
+    noted-same l (Next t) w = refl
+    noted-same l (Clip t box) w = refl
+    noted-same l (Pop t) w = refl
+    noted-same l (Draw t at box) w = let e = listed-same at (l .clips) w in λ i. record { clips = l .clips; commands = l .commands ++ (e i ∷ []) }
+    noted-same l (End t) w = refl
+    noted-same l (Refused n p) w = refl
+
+    go-list : (k m : ℕ) (o l : Listing) → ((t : Cursor) → InRun s t → readFrom k s t ≡ Read c → listFrom m r t l ≡ listFrom k s t l) → (x : Step) → Kept (InRun s) (λ t. Unit {0}) x → onStep x (λ t. readFrom k s t) ≡ Read c → onNext x o (λ t. listFrom m r t l) ≡ onNext x o (λ t. listFrom k s t l)
+    go-list k m o l f (Next t) h e = f t h e
+    go-list k m o l f (Clip t box) h e = f t h e
+    go-list k m o l f (Pop t) h e = f t h e
+    go-list k m o l f (Draw t at box) h e = f t h e
+    go-list k m o l f (End t) h e = refl
+    go-list k m o l f (Refused n p) h e = refl
+
+    list-same : (k m : ℕ) (st : Cursor) (l : Listing) → k ≤ m → InRun s st → readFrom k s st ≡ Read c → listFrom m r st l ≡ listFrom k s st l
+    unfolding readFrom listFrom
+    list-same zero m st l b h e = absurd (turned 2 (length s) c e)
+    list-same (suc k) zero st l b h e = absurd (omega arith)
+    list-same (suc k) (suc m) st l b h e =
+        ap (λ (x : Step). onNext x l (λ t. listFrom m r t (noted r l x))) (step-same st h (goes (stepAt s st) (λ t. readFrom k s t) c e))
+        ∙ ap (λ (z : Listing). onNext (stepAt s st) l (λ t. listFrom m r t z)) (sym (noted-same l (stepAt s st) (step-draws s st h)))
+        ∙ go-list k m l (noted s l (stepAt s st)) (λ t g f. list-same k m t (noted s l (stepAt s st)) (omega arith) g f) (stepAt s st) (step-in-run s st h) e
+
+-- "a strip accepted alone" reads the same in front of other bytes: it ends at the same cursor, with the same commands
+module _ (s t : List ℕ) (at : ℕ) (c : Cursor) (read : readStrip s at ≡ Read c) where
+  longer : length s ≤ length (s ++ t)
+  longer = omega (arith, length-append s t)
+
+  pub front-read : readStrip (s ++ t) at ≡ Read c
+  front-read = read-same s (s ++ t) longer (λ i h. sym (List·getD-append s t 0 i h)) c (suc (length s)) (suc (length (s ++ t))) (startAt at) (omega (arith, longer)) (λ k. absurd (omega arith)) read
+
+  pub front-list : commandsOf (s ++ t) at ≡ commandsOf s at
+  front-list = ap (λ (l : Listing). l .commands) (list-same s (s ++ t) longer (λ i h. sym (List·getD-append s t 0 i h)) c (suc (length s)) (suc (length (s ++ t))) (startAt at) (record { clips = []; commands = [] }) (omega (arith, longer)) (λ k. absurd (omega arith)) read)

@@ -3,4 +3,5 @@ pub mod Steps
 pub mod Limits
 pub mod Numbers
 pub mod Alike
+pub mod Runs
 pub mod Fronts

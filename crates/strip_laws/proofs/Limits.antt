@@ -17,12 +17,12 @@ step-within : (s : List ℕ) (st : Cursor) → Within st → Kept Within Within 
 step-within s st w = by-cases s st (Kept Within Within) record {
   refused = λ n p. tt;
   ended = record { depth = w .depth; clips = w .clips; commands = w .commands; glyphs = w .glyphs };
-  clip = λ d c. record { depth = omega arith; clips = omega arith; commands = w .commands; glyphs = w .glyphs };
-  pop = λ d. record { depth = omega (arith, w .depth); clips = w .clips; commands = w .commands; glyphs = w .glyphs };
-  draw = λ len c box f. record { depth = w .depth; clips = w .clips; commands = omega arith; glyphs = w .glyphs };
+  clip = λ d c due. record { depth = omega arith; clips = omega arith; commands = w .commands; glyphs = w .glyphs };
+  pop = λ d due. record { depth = omega (arith, w .depth); clips = w .clips; commands = w .commands; glyphs = w .glyphs };
+  draw = λ len c alone box f. record { depth = w .depth; clips = w .clips; commands = omega arith; glyphs = w .glyphs };
   run = λ c is fits. record { depth = w .depth; clips = w .clips; commands = omega arith; glyphs = w .glyphs };
-  glyph = λ g. record { depth = w .depth; clips = w .clips; commands = w .commands; glyphs = omega arith };
-  last = λ g d box f. record { depth = w .depth; clips = w .clips; commands = w .commands; glyphs = omega arith };
+  glyph = λ g due fits d. record { depth = w .depth; clips = w .clips; commands = w .commands; glyphs = omega arith };
+  last = λ g fits d box f. record { depth = w .depth; clips = w .clips; commands = w .commands; glyphs = omega arith };
 }
 
 start-within : (at : ℕ) → Within (startAt at)

@@ -83,12 +83,12 @@ step-opens : (s : List ℕ) (st : Cursor) → Opens (stepAt s st)
 step-opens s st = by-cases s st Opens record {
   refused = λ n p. tt;
   ended = tt;
-  clip = λ d c. rect-numbers s (st .at + 1);
-  pop = λ d. tt;
-  draw = λ len c box f. tt;
+  clip = λ d c due. rect-numbers s (st .at + 1);
+  pop = λ d due. tt;
+  draw = λ len c alone box f. tt;
   run = λ c is fits. tt;
-  glyph = λ g. tt;
-  last = λ g d box f. tt;
+  glyph = λ g due fits d. tt;
+  last = λ g fits d box f. tt;
 }
 
 -- ---- the list
