@@ -4,4 +4,5 @@ pub mod Limits
 pub mod Numbers
 pub mod Alike
 pub mod Runs
+pub mod Boxes
 pub mod Fronts

@@ -22,8 +22,8 @@ use Rattle.strip.specs.declared.Cursor.{Cursor}
 use Rattle.strip.specs.declared.Step.{Step}
 use Rattle.strip.specs.declared.Step.the-variants.{Next, Clip, Pop, Draw, End, Refused}
 use Rattle.strip.specs.Steps.{startAt, stepAt}
-use Rattle.strip_laws.proofs.Steps.{by-cases}
-use Rattle.strip.specs.Reading.{commandOf, Listing, noted, onNext, listFrom, commandsOf}
+use Rattle.strip_laws.proofs.Steps.{by-cases, Kept, list-keeps}
+use Rattle.strip.specs.Reading.{commandOf, Listing, noted, commandsOf}
 
 -- ---- floats, by where they stand
 zero-number : Number (ofBits binary64 0)
@@ -71,7 +71,7 @@ command-numbers : (s : List ℕ) (at : ℕ) (under : List Rect) → All (Edges N
 command-numbers s at under h = record { draw = draw-numbers s at; glyphs = glyph-numbers s (at + 103) (glyphCount (commandAt s at)); clips = h }
 
 -- ---- steps: what a CLIP opens has finite edges
-abbrev Opens : Step → Type 0
+abbrev pub Opens : Step → Type 0
 Opens (Next t) = Unit {0}
 Opens (Clip t box) = Edges Number box
 Opens (Pop t) = Unit {0}
@@ -79,7 +79,7 @@ Opens (Draw t at box) = Unit {0}
 Opens (End t) = Unit {0}
 Opens (Refused n p) = Unit {0}
 
-step-opens : (s : List ℕ) (st : Cursor) → Opens (stepAt s st)
+pub step-opens : (s : List ℕ) (st : Cursor) → Opens (stepAt s st)
 step-opens s st = by-cases s st Opens record {
   refused = λ n p. tt;
   ended = tt;
@@ -96,7 +96,7 @@ pub record Numbers (l : Listing) : Type 0 where
   pub clips : All (Edges Number) (l .clips)
   pub commands : All (Floats Number) (l .commands)
 
-one-rect : (b : Rect) → Edges Number b → All (Edges Number) (b ∷ [])
+pub one-rect : (b : Rect) → Edges Number b → All (Edges Number) (b ∷ [])
 unfolding All
 one-rect b h = (h, tt)
 
@@ -112,18 +112,13 @@ noted-numbers s l (Draw t at box) o h = record { clips = h .clips; commands = al
 noted-numbers s l (End t) o h = h
 noted-numbers s l (Refused n p) o h = h
 
-next-numbers : (x : Step) (l : Listing) (k : Cursor → Listing) → Numbers l → ((t : Cursor) → Numbers (k t)) → Numbers (onNext x l k)
-next-numbers (Next t) l k h f = f t
-next-numbers (Clip t box) l k h f = f t
-next-numbers (Pop t) l k h f = f t
-next-numbers (Draw t at box) l k h f = f t
-next-numbers (End t) l k h f = h
-next-numbers (Refused n p) l k h f = h
-
-list-numbers : (n : ℕ) (s : List ℕ) (st : Cursor) (l : Listing) → Numbers l → Numbers (listFrom n s st l)
-unfolding listFrom
-list-numbers zero s st l h = h
-list-numbers (suc n) s st l h = next-numbers (stepAt s st) l (λ t. listFrom n s t (noted s l (stepAt s st))) h (λ t. list-numbers n s t (noted s l (stepAt s st)) (noted-numbers s l (stepAt s st) (step-opens s st) h))
+onward : (x : Step) → Kept (λ st. Unit {0}) (λ st. Unit {0}) x
+onward (Next t) = tt
+onward (Clip t box) = tt
+onward (Pop t) = tt
+onward (Draw t at box) = tt
+onward (End t) = tt
+onward (Refused n p) = tt
 
 no-numbers : Numbers (record { clips = []; commands = [] })
 unfolding All
@@ -131,4 +126,4 @@ no-numbers = record { clips = tt; commands = tt }
 
 -- document 01's number 4 turns away what is not finite; what is listed is finite all the same, whatever the bytes
 pub strip-numbers : (s : List ℕ) (at : ℕ) → All (Floats Number) (commandsOf s at)
-strip-numbers s at = list-numbers (suc (length s)) s (startAt at) (record { clips = []; commands = [] }) no-numbers .commands
+strip-numbers s at = list-keeps (λ st. Unit {0}) Numbers s (λ st h. onward (stepAt s st)) (λ st l h o. noted-numbers s l (stepAt s st) (step-opens s st) o) (suc (length s)) (startAt at) (record { clips = []; commands = [] }) tt no-numbers .commands

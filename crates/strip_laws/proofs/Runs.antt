@@ -1,16 +1,23 @@
 -- A run's glyphs stand one behind the other, right behind their RUN; and what is listed stands whole within the bytes. Assumes nothing.
-use mathlib.Core.Path.{_≡_, sym, subst}
-use mathlib.Core.List.{List}
-use Prim.Native.Nat.{ℕ, _+_, _*_, _≤_, _<_}
+use mathlib.Core.Path.{_≡_, refl, sym, ap, _∙_, subst}
+use mathlib.Core.List.{List, [], _∷_, _++_}
+use Prim.Native.Nat.{ℕ, zero, suc, _+_, _*_, _≤_, _<_}
 use native.Mathlib.Omega.{arith}
+use lib.Dec.{eqb}
 use lib.ListN.{length, getD}
-use Rattle.commands.specs.Bounds.{glyphCount}
-use Rattle.strip_format.specs.Format.{lengthOf, commandAt}
+use borrow.Author.Tests.{eq-eqb, ne-eqb}
+use Rattle.lists.proofs.Picks.{pick-true, pick-false}
+use Rattle.geometry.specs.declared.Rect.{Rect}
+use Rattle.geometry.specs.Boxes.{union}
+use Rattle.commands.specs.declared.Glyph.{Glyph}
+use Rattle.commands.specs.Bounds.{glyphCount, united}
+use Rattle.commands.proofs.Runs.{united-first, united-last}
+use Rattle.strip_format.specs.Format.{lengthOf, rectAt, commandAt, glyphAt, glyphsFrom}
 use Rattle.strip_format.proofs.Lengths.{length-run}
 use Rattle.strip.specs.declared.Cursor.{Cursor}
 use Rattle.strip.specs.declared.Step.{Step}
 use Rattle.strip.specs.declared.Step.the-variants.{Next, Clip, Pop, Draw, End, Refused}
-use Rattle.strip.specs.Steps.{stepAt}
+use Rattle.strip.specs.Steps.{unite, stepAt}
 use Rattle.strip_laws.proofs.Steps.{run-count, by-cases, Kept}
 
 -- the cursor stands behind some of a run's glyphs, and the rest are due
@@ -20,6 +27,37 @@ pub record Behind (s : List ℕ) (st : Cursor) : Type 0 where
   pub fits : st .run + 103 ≤ length s
   pub stands : st .at ≡ st .run + 103 + 45 * read
   pub left : read + st .due ≡ glyphCount (commandAt s (st .run))
+  pub so-far : 0 < read → st .united ≡ united (rectAt s (st .run + 69)) (glyphsFrom s (st .run + 103) read)
+
+-- ---- the union of glyph boxes
+glyph-last : (s : List ℕ) (k at : ℕ) → glyphsFrom s at (suc k) ≡ glyphsFrom s at k ++ (glyphAt s (at + 45 * k) ∷ [])
+unfolding glyphsFrom
+glyph-last s zero at = let e : at + 45 * 0 ≡ at = omega arith in rw e
+glyph-last s (suc k) at = let e : at + 45 * suc k ≡ at + 45 + 45 * k = omega arith in rw e (ap (λ (l : List Glyph). glyphAt s at ∷ l) (glyph-last s k (at + 45)))
+
+glyph-first : (s : List ℕ) (at : ℕ) (own : Rect) → united own (glyphsFrom s at 1) ≡ rectAt s (at + 13)
+unfolding glyphsFrom
+glyph-first s at own = united-first own (glyphAt s at)
+
+pub glyphs-length : (s : List ℕ) (k at : ℕ) → length (glyphsFrom s at k) ≡ k
+unfolding glyphsFrom
+glyphs-length s zero at = refl
+glyphs-length s (suc k) at = ap suc (glyphs-length s k (at + 45))
+
+module _ (s : List ℕ) (st : Cursor) (b : Behind s st) where
+  pub unite-is : unite st (rectAt s (st .at + 13)) ≡ united (rectAt s (st .run + 69)) (glyphsFrom s (st .run + 103) (suc (b .read)))
+  unite-is = go (b .read) (b .stands) (b .so-far)
+    where
+      go : (k : ℕ) → st .at ≡ st .run + 103 + 45 * k → (0 < k → st .united ≡ united (rectAt s (st .run + 69)) (glyphsFrom s (st .run + 103) k)) → unite st (rectAt s (st .at + 13)) ≡ united (rectAt s (st .run + 69)) (glyphsFrom s (st .run + 103) (suc k))
+      go zero e f =
+          let z : st .at ≡ st .run + 103 = omega arith in
+          pick-true (eqb (st .at) (st .run + 103)) _ _ (eq-eqb _ _ z) ∙ ap (λ (x : ℕ). rectAt s (x + 13)) z ∙ sym (glyph-first s (st .run + 103) (rectAt s (st .run + 69)))
+      go (suc k) e f =
+          let z : st .at ≡ st .run + 103 → ⊥ = λ q. omega (arith, e, q) in
+          pick-false (eqb (st .at) (st .run + 103)) _ _ (ne-eqb _ _ z)
+          ∙ (λ i. union (f (omega arith) i) (rectAt s (e i + 13)))
+          ∙ sym (united-last (rectAt s (st .run + 69)) (glyphsFrom s (st .run + 103) (suc k)) (glyphAt s (st .run + 103 + 45 * suc k)) (omega (arith, glyphs-length s (suc k) (st .run + 103))))
+          ∙ sym (ap (united (rectAt s (st .run + 69))) (glyph-last s (suc k) (st .run + 103)))
 
 abbrev pub InRun : List ℕ → Cursor → Type 0
 InRun s st = 0 < st .due → Behind s st
@@ -31,8 +69,8 @@ step-in-run s st h = by-cases s st (Kept (InRun s) (λ t. Unit {0})) record {
   clip = λ d c due. (λ k. absurd (omega (arith, due)));
   pop = λ d due. (λ k. absurd (omega (arith, due)));
   draw = λ len c alone box f. (λ k. absurd (omega arith));
-  run = λ c is fits. (λ k. record { read = 0; byte = is; fits = fits; stands = omega arith; left = omega (arith, run-count s (st .at) is fits) });
-  glyph = λ g due fits d. (λ k. let b = h due in record { read = b .read + 1; byte = b .byte; fits = b .fits; stands = omega (arith, b .stands); left = omega (arith, b .left) });
+  run = λ c is fits. (λ k. record { read = 0; byte = is; fits = fits; stands = omega arith; left = omega (arith, run-count s (st .at) is fits); so-far = λ k. absurd (omega arith) });
+  glyph = λ g due fits d. (λ k. let b = h due in record { read = suc (b .read); byte = b .byte; fits = b .fits; stands = omega (arith, b .stands); left = omega (arith, b .left); so-far = λ k. unite-is s st b });
   last = λ g fits d box f. (λ k. absurd (omega (arith, d)));
 }
 

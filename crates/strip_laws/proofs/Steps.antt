@@ -24,7 +24,7 @@ use Rattle.strip.specs.declared.Step.the-variants.{Next, Clip, Pop, Draw, End, 
 use Rattle.strip.specs.declared.Answer.{Answer}
 use Rattle.strip.specs.Steps.{dueFits, onBox, clipStep, popStep, drawn, drawStep, runStep, unite, glyphRead, lastStep, glyphStep, endStep, effectOf, stepAt}
 use Rattle.strip.proofs.Effects.{due-glyph}
-use Rattle.strip.specs.Reading.{onStep, readFrom}
+use Rattle.strip.specs.Reading.{onStep, readFrom, Listing, noted, onNext, listFrom}
 use Rattle.strip_laws.specs.Limits.{WhereRead}
 
 -- ---- case by case
@@ -161,3 +161,19 @@ module _ (P Q : Cursor → Type 0) where
   unfolding readFrom
   read-keeps s f zero st h = tt
   read-keeps s f (suc n) st h = on-step (stepAt s st) (λ t. readFrom n s t) (f st h) (λ t k. read-keeps s f n t k)
+
+-- ---- the list
+module _ (P : Cursor → Type 0) (L : Listing → Type 0) where
+  next-keeps : (x : Step) (l : Listing) (k : Cursor → Listing) → Kept P (λ t. Unit {0}) x → L l → ((t : Cursor) → P t → L (k t)) → L (onNext x l k)
+  next-keeps (Next t) l k h o f = f t h
+  next-keeps (Clip t box) l k h o f = f t h
+  next-keeps (Pop t) l k h o f = f t h
+  next-keeps (Draw t at box) l k h o f = f t h
+  next-keeps (End t) l k h o f = o
+  next-keeps (Refused n p) l k h o f = o
+
+  pub list-keeps : (s : List ℕ) → ((st : Cursor) → P st → Kept P (λ t. Unit {0}) (stepAt s st)) → ((st : Cursor) (l : Listing) → P st → L l → L (noted s l (stepAt s st))) → (n : ℕ) (st : Cursor) (l : Listing) → P st → L l → L (listFrom n s st l)
+  unfolding listFrom
+  list-keeps s f g zero st l h o = o
+  list-keeps s f g (suc n) st l h o =
+      next-keeps (stepAt s st) l (λ t. listFrom n s t (noted s l (stepAt s st))) (f st h) o (λ t k. list-keeps s f g n t (noted s l (stepAt s st)) k (g st l h o))
