@@ -20,7 +20,8 @@ use Rattle.index_words.specs.Index.{standsIn, rowList, startOf, indexWords}
 use Rattle.index_words.proofs.Sizes.{rows-size}
 use Rattle.index_words.proofs.Starts.{start-next, start-at, entries-at, ends-within}
 use Rattle.index_words.proofs.Places.{touch-stands}
-use Rattle.index_words.proofs.Painting.{paintAll, paintAt, Silent, row-paints}
+use Rattle.index_words.specs.Painting.{paintAll, paintAt}
+use Rattle.index_words.proofs.Painting.{Silent, row-paints}
 use Rattle.candidates.specs.declared.Lookup.{Lookup}
 use Rattle.candidates.specs.declared.Lookup.the-variants.{Part}
 use Rattle.candidates.specs.Table.{badSize, badSizes, badRow, findRow, find, partOf, candidates, numberOf, refusal}

@@ -24,8 +24,9 @@ use Rattle.strip.specs.declared.Answer.the-variants.{Read, Refused as TurnedAwa
 use Rattle.strip.specs.Steps.{startAt, dueFits, onBox, clipStep, drawn, drawStep, runStep, unite, glyphRead, lastStep, glyphStep, effectOf, stepAt}
 use Rattle.strip.specs.Reading.{onStep, readFrom, readStrip, commandOf, Listing, noted, onNext, listFrom, commandsOf}
 use Rattle.strip.proofs.Effects.{due-glyph, step-effect}
+use Rattle.strip_laws.specs.Limits.{Whole}
 use Rattle.strip_laws.proofs.Steps.{opened, Kept}
-use Rattle.strip_laws.proofs.Runs.{InRun, step-in-run, Whole, Draws, step-draws}
+use Rattle.strip_laws.proofs.Runs.{InRun, step-in-run, Draws, step-draws}
 use Rattle.strip_laws.proofs.Alike.{pick-both, at-byte, u16-same, rect-same, glyph-same-at, command-same, operands-same}
 
 -- the run whose glyphs are due stands within the first n bytes

@@ -18,6 +18,7 @@ use Rattle.strip.specs.declared.Cursor.{Cursor}
 use Rattle.strip.specs.declared.Step.{Step}
 use Rattle.strip.specs.declared.Step.the-variants.{Next, Clip, Pop, Draw, End, Refused}
 use Rattle.strip.specs.Steps.{unite, stepAt}
+use Rattle.strip_laws.specs.Limits.{Whole}
 use Rattle.strip_laws.proofs.Steps.{run-count, by-cases, Kept}
 
 -- the cursor stands behind some of a run's glyphs, and the rest are due
@@ -73,11 +74,6 @@ step-in-run s st h = by-cases s st (Kept (InRun s) (λ t. Unit {0})) record {
   glyph = λ g due fits d. (λ k. let b = h due in record { read = suc (b .read); byte = b .byte; fits = b .fits; stands = omega (arith, b .stands); left = omega (arith, b .left); so-far = λ k. unite-is s st b });
   last = λ g fits d box f. (λ k. absurd (omega (arith, d)));
 }
-
--- a command stands whole at an offset, with its glyphs
-pub record Whole (s : List ℕ) (at : ℕ) : Type 0 where
-  pub fits : at + lengthOf (getD s at 0) ≤ length s
-  pub glyphs : 0 < glyphCount (commandAt s at) → at + 103 + 45 * glyphCount (commandAt s at) ≤ length s
 
 abbrev pub Draws : List ℕ → Step → Type 0
 Draws s (Next t) = Unit {0}

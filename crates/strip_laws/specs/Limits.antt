@@ -1,6 +1,10 @@
 -- The words of the laws of reading. Document 01's number 6: "33rd open clip, 4,097th clip pushed", "4,097th drawing command",
 -- "16,385th glyph of a frame".
-use Prim.Native.Nat.{ℕ, _≤_, _<_}
+use mathlib.Core.List.{List}
+use Prim.Native.Nat.{ℕ, _+_, _*_, _≤_, _<_}
+use lib.ListN.{length, getD}
+use Rattle.commands.specs.Bounds.{glyphCount}
+use Rattle.strip_format.specs.Format.{lengthOf, commandAt}
 use Rattle.strip.specs.declared.Cursor.{Cursor}
 use Rattle.strip.specs.declared.Answer.{Answer}
 use Rattle.strip.specs.declared.Answer.the-variants.{Read, Refused}
@@ -21,3 +25,8 @@ WhereRead P (Refused n p) = Unit {0}
 pub record Passed (at n : ℕ) (t : Cursor) : Type 0 where
   pub some : at < t .at
   pub inside : t .at ≤ n
+
+-- a command stands whole at an offset, with its glyphs
+pub record Whole (s : List ℕ) (at : ℕ) : Type 0 where
+  pub fits : at + lengthOf (getD s at 0) ≤ length s
+  pub glyphs : 0 < glyphCount (commandAt s at) → at + 103 + 45 * glyphCount (commandAt s at) ≤ length s
