@@ -58,11 +58,11 @@ run-is s at is h = rw (is, length-run, le-leb (at + 103) (length s) h)
 pub step-boxed : (s : List ℕ) (st : Cursor) → InRun s st → Boxed s (stepAt s st)
 step-boxed s st h = by-cases s st (Boxed s) record {
   refused = λ n p. tt;
-  ended = tt;
+  ended = λ due. tt;
   clip = λ d c due. tt;
   pop = λ d due. tt;
-  draw = λ len c alone box f. alone-box s (st .at) (st .united) box alone f;
-  run = λ c is fits. tt;
+  draw = λ len c due alone box f. alone-box s (st .at) (st .united) box alone f;
+  run = λ c due is fits some. tt;
   glyph = λ g due fits d. tt;
   last = λ g fits d box f.
       let b = h (omega (arith, d)) in

@@ -13,19 +13,19 @@ use Rattle.strip_laws.specs.Limits.{Within, WhereRead, Passed}
 use Rattle.strip_laws.proofs.Steps.{by-cases, Kept, read-keeps}
 
 -- ---- the counts
-step-within : (s : List ℕ) (st : Cursor) → Within st → Kept Within Within (stepAt s st)
+pub step-within : (s : List ℕ) (st : Cursor) → Within st → Kept Within Within (stepAt s st)
 step-within s st w = by-cases s st (Kept Within Within) record {
   refused = λ n p. tt;
-  ended = record { depth = w .depth; clips = w .clips; commands = w .commands; glyphs = w .glyphs };
+  ended = λ due. record { depth = w .depth; clips = w .clips; commands = w .commands; glyphs = w .glyphs };
   clip = λ d c due. record { depth = omega arith; clips = omega arith; commands = w .commands; glyphs = w .glyphs };
   pop = λ d due. record { depth = omega (arith, w .depth); clips = w .clips; commands = w .commands; glyphs = w .glyphs };
-  draw = λ len c alone box f. record { depth = w .depth; clips = w .clips; commands = omega arith; glyphs = w .glyphs };
-  run = λ c is fits. record { depth = w .depth; clips = w .clips; commands = omega arith; glyphs = w .glyphs };
+  draw = λ len c due alone box f. record { depth = w .depth; clips = w .clips; commands = omega arith; glyphs = w .glyphs };
+  run = λ c due is fits some. record { depth = w .depth; clips = w .clips; commands = omega arith; glyphs = w .glyphs };
   glyph = λ g due fits d. record { depth = w .depth; clips = w .clips; commands = w .commands; glyphs = omega arith };
   last = λ g fits d box f. record { depth = w .depth; clips = w .clips; commands = w .commands; glyphs = omega arith };
 }
 
-start-within : (at : ℕ) → Within (startAt at)
+pub start-within : (at : ℕ) → Within (startAt at)
 start-within at = record { depth = omega arith; clips = omega arith; commands = omega arith; glyphs = omega arith }
 
 pub strip-within : (s : List ℕ) (at : ℕ) → WhereRead Within (readStrip s at)

@@ -82,11 +82,11 @@ Opens (Refused n p) = Unit {0}
 pub step-opens : (s : List ℕ) (st : Cursor) → Opens (stepAt s st)
 step-opens s st = by-cases s st Opens record {
   refused = λ n p. tt;
-  ended = tt;
+  ended = λ due. tt;
   clip = λ d c due. rect-numbers s (st .at + 1);
   pop = λ d due. tt;
-  draw = λ len c alone box f. tt;
-  run = λ c is fits. tt;
+  draw = λ len c due alone box f. tt;
+  run = λ c due is fits some. tt;
   glyph = λ g due fits d. tt;
   last = λ g fits d box f. tt;
 }

@@ -66,11 +66,11 @@ InRun s st = 0 < st .due → Behind s st
 pub step-in-run : (s : List ℕ) (st : Cursor) → InRun s st → Kept (InRun s) (λ t. Unit {0}) (stepAt s st)
 step-in-run s st h = by-cases s st (Kept (InRun s) (λ t. Unit {0})) record {
   refused = λ n p. tt;
-  ended = tt;
+  ended = λ due. tt;
   clip = λ d c due. (λ k. absurd (omega (arith, due)));
   pop = λ d due. (λ k. absurd (omega (arith, due)));
-  draw = λ len c alone box f. (λ k. absurd (omega arith));
-  run = λ c is fits. (λ k. record { read = 0; byte = is; fits = fits; stands = omega arith; left = omega (arith, run-count s (st .at) is fits); so-far = λ k. absurd (omega arith) });
+  draw = λ len c due alone box f. (λ k. absurd (omega arith));
+  run = λ c due is fits some. (λ k. record { read = 0; byte = is; fits = fits; stands = omega arith; left = omega (arith, run-count s (st .at) is fits); so-far = λ k. absurd (omega arith) });
   glyph = λ g due fits d. (λ k. let b = h due in record { read = suc (b .read); byte = b .byte; fits = b .fits; stands = omega (arith, b .stands); left = omega (arith, b .left); so-far = λ k. unite-is s st b });
   last = λ g fits d box f. (λ k. absurd (omega (arith, d)));
 }
@@ -86,11 +86,11 @@ Draws s (Refused n p) = Unit {0}
 pub step-draws : (s : List ℕ) (st : Cursor) → InRun s st → Draws s (stepAt s st)
 step-draws s st h = by-cases s st (Draws s) record {
   refused = λ n p. tt;
-  ended = tt;
+  ended = λ due. tt;
   clip = λ d c due. tt;
   pop = λ d due. tt;
-  draw = λ len c alone box f. record { fits = alone .fits; glyphs = λ k. absurd (omega (arith, alone .none)) };
-  run = λ c is fits. tt;
+  draw = λ len c due alone box f. record { fits = alone .fits; glyphs = λ k. absurd (omega (arith, alone .none)) };
+  run = λ c due is fits some. tt;
   glyph = λ g due fits d. tt;
   last = λ g fits d box f. let b = h (omega (arith, d)) in record { fits = subst (λ (y : ℕ). st .run + lengthOf y ≤ length s) (sym (b .byte)) (omega (arith, b .fits, length-run)); glyphs = λ k. omega (arith, b .stands, b .left) };
 }

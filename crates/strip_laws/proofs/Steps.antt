@@ -66,11 +66,11 @@ due-none b k due e n h = eqb-true due 0 (sym (pick-false (eqb b 6) (ltb 0 due) (
 -- M holds of every step that may be taken at a cursor
 pub record Cases (s : List ℕ) (st : Cursor) (M : Step → Type 0) : Type 0 where
   pub refused : (n p : ℕ) → M (Refused n p)
-  pub ended : M (endStep st)
+  pub ended : st .due ≡ 0 → M (endStep st)
   pub clip : st .depth < 32 → st .clips < 4096 → st .due ≡ 0 → M (Clip (opened st) (rectAt s (st .at + 1)))
   pub pop : (st .depth ≡ 0 → ⊥) → st .due ≡ 0 → M (Pop (closed st))
-  pub draw : (len : ℕ) → st .commands < 4096 → Alone s (st .at) → (box : Rect) → tryWith (commandAt s (st .at)) (st .united) ≡ Finite box → M (Draw (drawn st len 0) (st .at) box)
-  pub run : st .commands < 4096 → getD s (st .at) 0 ≡ 5 → st .at + 103 ≤ length s → M (Next (drawn st 103 (u16At s (st .at + 101))))
+  pub draw : (len : ℕ) → st .commands < 4096 → st .due ≡ 0 → Alone s (st .at) → (box : Rect) → tryWith (commandAt s (st .at)) (st .united) ≡ Finite box → M (Draw (drawn st len 0) (st .at) box)
+  pub run : st .commands < 4096 → st .due ≡ 0 → getD s (st .at) 0 ≡ 5 → st .at + 103 ≤ length s → (u16At s (st .at + 101) ≡ 0 → ⊥) → M (Next (drawn st 103 (u16At s (st .at + 101))))
   pub glyph : st .glyphs < 16384 → 0 < st .due → st .at + 45 ≤ length s → (st .due ≡ 1 → ⊥) → M (Next (glyphRead st (rectAt s (st .at + 13))))
   pub last : st .glyphs < 16384 → st .at + 45 ≤ length s → st .due ≡ 1 → (box : Rect) → tryTransform (transformOf (commandAt s (st .run))) (unite st (rectAt s (st .at + 13))) ≡ Finite box → M (Draw (glyphRead st (rectAt s (st .at + 13))) (st .run) box)
 
@@ -89,17 +89,17 @@ module _ (s : List ℕ) (st : Cursor) (M : Step → Type 0) (cases : Cases s st 
   unfolding popStep
   of-pop due = pick-cases M (eqb (st .depth) 0) _ _ (λ e. cases .refused 5 (st .at)) (λ e. cases .pop (eqb-false (st .depth) 0 e) due)
 
-  of-draw : (len : ℕ) → Alone s (st .at) → M (drawStep s st len)
+  of-draw : (len : ℕ) → st .due ≡ 0 → Alone s (st .at) → M (drawStep s st len)
   unfolding drawStep
-  of-draw len alone =
+  of-draw len due alone =
       pick-cases M (leb 4096 (st .commands)) _ _ (λ e. cases .refused 6 (st .at))
-      λ e. on-box (tryWith (commandAt s (st .at)) (st .united)) (λ box. Draw (drawn st len 0) (st .at) box) (λ box f. cases .draw len (leb-false 4096 (st .commands) e) alone box f)
+      λ e. on-box (tryWith (commandAt s (st .at)) (st .united)) (λ box. Draw (drawn st len 0) (st .at) box) (λ box f. cases .draw len (leb-false 4096 (st .commands) e) due alone box f)
 
-  of-run : getD s (st .at) 0 ≡ 5 → st .at + 103 ≤ length s → M (runStep s st)
+  of-run : st .due ≡ 0 → getD s (st .at) 0 ≡ 5 → st .at + 103 ≤ length s → M (runStep s st)
   unfolding runStep
-  of-run is fits =
-      pick-cases M (eqb (u16At s (st .at + 101)) 0) _ _ (λ e. of-draw 103 record { fits = subst (λ (y : ℕ). st .at + lengthOf y ≤ length s) (sym is) (omega (arith, length-run)); none = run-count s (st .at) is fits ∙ eqb-true (u16At s (st .at + 101)) 0 e })
-      λ e. pick-cases M (leb 4096 (st .commands)) _ _ (λ e. cases .refused 6 (st .at)) (λ e. cases .run (leb-false 4096 (st .commands) e) is fits)
+  of-run due is fits =
+      pick-cases M (eqb (u16At s (st .at + 101)) 0) _ _ (λ e. of-draw 103 due record { fits = subst (λ (y : ℕ). st .at + lengthOf y ≤ length s) (sym is) (omega (arith, length-run)); none = run-count s (st .at) is fits ∙ eqb-true (u16At s (st .at + 101)) 0 e })
+      λ z. pick-cases M (leb 4096 (st .commands)) _ _ (λ e. cases .refused 6 (st .at)) (λ e. cases .run (leb-false 4096 (st .commands) e) due is fits (eqb-false (u16At s (st .at + 101)) 0 z))
 
   of-last : st .glyphs < 16384 → 0 < st .due → st .at + 45 ≤ length s → M (lastStep s st (rectAt s (st .at + 13)))
   unfolding lastStep
@@ -117,11 +117,11 @@ module _ (s : List ℕ) (st : Cursor) (M : Step → Type 0) (cases : Cases s st 
   of-effect : (b : ℕ) → getD s (st .at) 0 ≡ b → dueFits b (st .due) ≡ true → st .at + lengthOf b ≤ length s → M (effectOf s st b)
   unfolding effectOf
   of-effect b is due fits =
-      pick-cases M (eqb b 0) _ _ (λ e. cases .ended)
+      pick-cases M (eqb b 0) _ _ (λ e. cases .ended (due-none b 0 (st .due) (eqb-true b 0 e) refl due))
       λ e. pick-cases M (eqb b 1) _ _ (λ e. of-clip (due-none b 1 (st .due) (eqb-true b 1 e) refl due))
       λ e. pick-cases M (eqb b 2) _ _ (λ e. of-pop (due-none b 2 (st .due) (eqb-true b 2 e) refl due))
-      λ e. pick-cases M (eqb b 5) _ _ (λ e. let k = eqb-true b 5 e in of-run (is ∙ k) (omega (arith, subst (λ (y : ℕ). st .at + lengthOf y ≤ length s) k fits, length-run)))
-      λ f. pick-cases M (eqb b 6) _ _ (λ e. of-glyph (due-glyph b (st .due) (eqb-true b 6 e) due) (omega (arith, subst (λ (y : ℕ). st .at + lengthOf y ≤ length s) (eqb-true b 6 e) fits, length-glyph))) (λ e. of-draw (lengthOf b) record { fits = subst (λ (y : ℕ). st .at + lengthOf y ≤ length s) (sym is) fits; none = no-count s (st .at) (λ k. eqb-false b 5 f (sym is ∙ k)) })
+      λ e. pick-cases M (eqb b 5) _ _ (λ e. let k = eqb-true b 5 e in of-run (due-none b 5 (st .due) k refl due) (is ∙ k) (omega (arith, subst (λ (y : ℕ). st .at + lengthOf y ≤ length s) k fits, length-run)))
+      λ f. pick-cases M (eqb b 6) _ _ (λ e. of-glyph (due-glyph b (st .due) (eqb-true b 6 e) due) (omega (arith, subst (λ (y : ℕ). st .at + lengthOf y ≤ length s) (eqb-true b 6 e) fits, length-glyph))) (λ e. of-draw (lengthOf b) (due-none b b (st .due) refl e due) record { fits = subst (λ (y : ℕ). st .at + lengthOf y ≤ length s) (sym is) fits; none = no-count s (st .at) (λ k. eqb-false b 5 f (sym is ∙ k)) })
 
   pub by-cases : M (stepAt s st)
   unfolding stepAt
