@@ -67,8 +67,8 @@ step-counted s st = by-cases s st (Counted st) record {
   pop = λ d due. record { clips = omega arith; depth = omega arith };
   draw = λ len c due alone box f. record { clips = omega arith; depth = omega arith };
   run = λ c due is fits some. record { clips = omega arith; depth = omega arith };
-  glyph = λ g due fits d. record { clips = omega arith; depth = omega arith };
-  last = λ g fits d box f. record { clips = omega arith; depth = omega arith };
+  glyph = λ g due fits d own o. record { clips = omega arith; depth = omega arith };
+  last = λ g fits d own o box f. record { clips = omega arith; depth = omega arith };
 }
 
 snoc-length : {A : Type 0} (l : List A) (a : A) → length (l ++ (a ∷ [])) ≡ suc (length l)
@@ -85,8 +85,8 @@ step-tally s st l h y = by-cases s st (λ x. Kept (λ t. Tally t (noted s l x)) 
   pop = λ d due. record { depth = omega (arith, y .depth, drop-length (l .clips)); running = y .running; resting = y .resting };
   draw = λ len c due alone box f. record { depth = y .depth; running = λ k. absurd (omega arith); resting = λ k. omega (arith, y .resting due, snoc-length (l .commands) (commandOf s (st .at) (l .clips))) };
   run = λ c due is fits some. record { depth = y .depth; running = λ k. omega (arith, y .resting due); resting = λ k. absurd (some k) };
-  glyph = λ g due fits d. record { depth = y .depth; running = λ k. y .running due; resting = λ k. absurd (omega arith) };
-  last = λ g fits d box f. record { depth = y .depth; running = λ k. absurd (omega (arith, d)); resting = λ k. omega (arith, y .running (omega (arith, d)), snoc-length (l .commands) (commandOf s (st .run) (l .clips))) };
+  glyph = λ g due fits d own o. record { depth = y .depth; running = λ k. y .running due; resting = λ k. absurd (omega arith) };
+  last = λ g fits d own o box f. record { depth = y .depth; running = λ k. absurd (omega (arith, d)); resting = λ k. omega (arith, y .running (omega (arith, d)), snoc-length (l .commands) (commandOf s (st .run) (l .clips))) };
 }
 
 -- ---- what the space holds on the way

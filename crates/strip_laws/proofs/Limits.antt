@@ -21,8 +21,8 @@ step-within s st w = by-cases s st (Kept Within Within) record {
   pop = λ d due. record { depth = omega (arith, w .depth); clips = w .clips; commands = w .commands; glyphs = w .glyphs };
   draw = λ len c due alone box f. record { depth = w .depth; clips = w .clips; commands = omega arith; glyphs = w .glyphs };
   run = λ c due is fits some. record { depth = w .depth; clips = w .clips; commands = omega arith; glyphs = w .glyphs };
-  glyph = λ g due fits d. record { depth = w .depth; clips = w .clips; commands = w .commands; glyphs = omega arith };
-  last = λ g fits d box f. record { depth = w .depth; clips = w .clips; commands = w .commands; glyphs = omega arith };
+  glyph = λ g due fits d own o. record { depth = w .depth; clips = w .clips; commands = w .commands; glyphs = omega arith };
+  last = λ g fits d own o box f. record { depth = w .depth; clips = w .clips; commands = w .commands; glyphs = omega arith };
 }
 
 pub start-within : (at : ℕ) → Within (startAt at)

@@ -87,8 +87,8 @@ step-opens s st = by-cases s st Opens record {
   pop = λ d due. tt;
   draw = λ len c due alone box f. tt;
   run = λ c due is fits some. tt;
-  glyph = λ g due fits d. tt;
-  last = λ g fits d box f. tt;
+  glyph = λ g due fits d own o. tt;
+  last = λ g fits d own o box f. tt;
 }
 
 -- ---- the list

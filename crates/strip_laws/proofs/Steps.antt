@@ -71,8 +71,8 @@ pub record Cases (s : List ℕ) (st : Cursor) (M : Step → Type 0) : Type 0 whe
   pub pop : (st .depth ≡ 0 → ⊥) → st .due ≡ 0 → M (Pop (closed st))
   pub draw : (len : ℕ) → st .commands < 4096 → st .due ≡ 0 → Alone s (st .at) → (box : Rect) → tryWith (commandAt s (st .at)) (st .united) ≡ Finite box → M (Draw (drawn st len 0) (st .at) box)
   pub run : st .commands < 4096 → st .due ≡ 0 → getD s (st .at) 0 ≡ 5 → st .at + 103 ≤ length s → (u16At s (st .at + 101) ≡ 0 → ⊥) → M (Next (drawn st 103 (u16At s (st .at + 101))))
-  pub glyph : st .glyphs < 16384 → 0 < st .due → st .at + 45 ≤ length s → (st .due ≡ 1 → ⊥) → M (Next (glyphRead st (rectAt s (st .at + 13))))
-  pub last : st .glyphs < 16384 → st .at + 45 ≤ length s → st .due ≡ 1 → (box : Rect) → tryTransform (transformOf (commandAt s (st .run))) (unite st (rectAt s (st .at + 13))) ≡ Finite box → M (Draw (glyphRead st (rectAt s (st .at + 13))) (st .run) box)
+  pub glyph : st .glyphs < 16384 → 0 < st .due → st .at + 45 ≤ length s → (st .due ≡ 1 → ⊥) → (own : Rect) → tryTransform (transformOf (commandAt s (st .run))) (rectAt s (st .at + 13)) ≡ Finite own → M (Next (glyphRead st (rectAt s (st .at + 13))))
+  pub last : st .glyphs < 16384 → st .at + 45 ≤ length s → st .due ≡ 1 → (own : Rect) → tryTransform (transformOf (commandAt s (st .run))) (rectAt s (st .at + 13)) ≡ Finite own → (box : Rect) → tryTransform (transformOf (commandAt s (st .run))) (unite st (rectAt s (st .at + 13))) ≡ Finite box → M (Draw (glyphRead st (rectAt s (st .at + 13))) (st .run) box)
 
 module _ (s : List ℕ) (st : Cursor) (M : Step → Type 0) (cases : Cases s st M) where
   on-box : (r : Transformed) (k : Rect → Step) → ((box : Rect) → r ≡ Finite box → M (k box)) → M (onBox (st .at) r k)
@@ -101,18 +101,18 @@ module _ (s : List ℕ) (st : Cursor) (M : Step → Type 0) (cases : Cases s st 
       pick-cases M (eqb (u16At s (st .at + 101)) 0) _ _ (λ e. of-draw 103 due record { fits = subst (λ (y : ℕ). st .at + lengthOf y ≤ length s) (sym is) (omega (arith, length-run)); none = run-count s (st .at) is fits ∙ eqb-true (u16At s (st .at + 101)) 0 e })
       λ z. pick-cases M (leb 4096 (st .commands)) _ _ (λ e. cases .refused 6 (st .at)) (λ e. cases .run (leb-false 4096 (st .commands) e) due is fits (eqb-false (u16At s (st .at + 101)) 0 z))
 
-  of-last : st .glyphs < 16384 → 0 < st .due → st .at + 45 ≤ length s → M (lastStep s st (rectAt s (st .at + 13)))
+  of-last : st .glyphs < 16384 → 0 < st .due → st .at + 45 ≤ length s → (own : Rect) → tryTransform (transformOf (commandAt s (st .run))) (rectAt s (st .at + 13)) ≡ Finite own → M (lastStep s st (rectAt s (st .at + 13)))
   unfolding lastStep
-  of-last h due fits =
+  of-last h due fits own o =
       pick-cases M (eqb (st .due) 1) _ _
-      (λ e. on-box (tryTransform (transformOf (commandAt s (st .run))) (unite st (rectAt s (st .at + 13)))) (λ box. Draw (glyphRead st (rectAt s (st .at + 13))) (st .run) box) (λ box f. cases .last h fits (eqb-true (st .due) 1 e) box f))
-      (λ e. cases .glyph h due fits (eqb-false (st .due) 1 e))
+      (λ e. on-box (tryTransform (transformOf (commandAt s (st .run))) (unite st (rectAt s (st .at + 13)))) (λ box. Draw (glyphRead st (rectAt s (st .at + 13))) (st .run) box) (λ box f. cases .last h fits (eqb-true (st .due) 1 e) own o box f))
+      (λ e. cases .glyph h due fits (eqb-false (st .due) 1 e) own o)
 
   of-glyph : 0 < st .due → st .at + 45 ≤ length s → M (glyphStep s st)
   unfolding glyphStep
   of-glyph due fits =
       pick-cases M (leb 16384 (st .glyphs)) _ _ (λ e. cases .refused 6 (st .at))
-      λ e. on-box (tryTransform (transformOf (commandAt s (st .run))) (rectAt s (st .at + 13))) (λ own. lastStep s st (rectAt s (st .at + 13))) (λ own f. of-last (leb-false 16384 (st .glyphs) e) due fits)
+      λ e. on-box (tryTransform (transformOf (commandAt s (st .run))) (rectAt s (st .at + 13))) (λ own. lastStep s st (rectAt s (st .at + 13))) (λ own o. of-last (leb-false 16384 (st .glyphs) e) due fits own o)
 
   of-effect : (b : ℕ) → getD s (st .at) 0 ≡ b → dueFits b (st .due) ≡ true → st .at + lengthOf b ≤ length s → M (effectOf s st b)
   unfolding effectOf
