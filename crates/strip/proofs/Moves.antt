@@ -67,7 +67,7 @@ module _ (n : ℕ) (st : Cursor) where
   glyph-moves s h = pick-cases (Moved n st) (leb 16384 (st .glyphs)) _ _ (λ e. tt) (λ e. on-box (st .at) (tryTransform (transformOf (commandAt s (st .run))) (rectAt s (st .at + 13))) (λ own. lastStep s st (rectAt s (st .at + 13))) (λ own. last-moves s (rectAt s (st .at + 13)) h))
 
 -- a length of the table, at a byte that is known
-at-byte : (x n b k : ℕ) → x + lengthOf b ≤ n → b ≡ k → x + lengthOf k ≤ n
+pub at-byte : (x n b k : ℕ) → x + lengthOf b ≤ n → b ≡ k → x + lengthOf k ≤ n
 at-byte x n b k h e = subst (λ (y : ℕ). x + lengthOf y ≤ n) e h
 
 effect-moves : (s : List ℕ) (st : Cursor) (b : ℕ) → st .at + lengthOf b ≤ length s → Moved (length s) st (effectOf s st b)

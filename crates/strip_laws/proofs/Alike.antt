@@ -1,4 +1,4 @@
--- Two inputs with the same first n bytes: what is decoded within those bytes is the same, and so is every step. Assumes nothing.
+-- Two inputs, one with the first n bytes of the other from byte k on: what is decoded within those bytes is the same. Assumes nothing.
 use mathlib.Core.Path.{_≡_, refl, sym, ap, subst}
 use mathlib.Core.Bool.{Bool, true, false, _&&_}
 use mathlib.Core.List.{List}
@@ -14,160 +14,157 @@ use Rattle.little_endian.specs.Words.{u16At, u32At, u64At, f32At, f64At, finite
 use Rattle.commands.specs.declared.DrawCommand.the-variants.{FillPath, StrokePath, GlyphRun, Scene}
 use Rattle.strip_format.specs.Format.{lengthOf, rectAt, affineAt, joinOf, capOf, strokeAt, fillAt, strokePathAt, runAt, sceneAt, commandAt, glyphAt}
 use Rattle.strip_format.proofs.Lengths.{length-pos, length-clip, length-fill, length-stroke, length-run, length-glyph, length-scene}
+use Rattle.strip.proofs.Moves.{at-byte}
 use Rattle.operand_checks.specs.Operands.{finiteFrom, finiteF32, finiteStroke, finiteRun, finiteGlyph, codesFit, operandsAt}
 
 -- number 4 where a test fails
 abbrev four : Bool → ℕ
 four t = pick t 0 4
 
-pub pick-both : {A : Type 0} (t : Bool) (x y z w : A) → (t ≡ true → x ≡ z) → (t ≡ false → y ≡ w) → pick t x y ≡ pick t z w
+pick-both : {A : Type 0} (t : Bool) (x y z w : A) → (t ≡ true → x ≡ z) → (t ≡ false → y ≡ w) → pick t x y ≡ pick t z w
 pick-both true x y z w f g = f refl
 pick-both false x y z w f g = g refl
 
--- a length of the table, at a byte that is known
-pub at-byte : (x n b k : ℕ) → x + lengthOf b ≤ n → b ≡ k → x + lengthOf k ≤ n
-at-byte x n b k h e = subst (λ (y : ℕ). x + lengthOf y ≤ n) e h
-
-module _ (s r : List ℕ) (n : ℕ) (same : (i : ℕ) → i < n → getD s i 0 ≡ getD r i 0) where
+module _ (s r : List ℕ) (by n : ℕ) (same : (i j : ℕ) → j ≡ by + i → i < n → getD s i 0 ≡ getD r j 0) where
   -- ---- numbers
-  pub u16-same : (at : ℕ) → at + 2 ≤ n → u16At s at ≡ u16At r at
+  pub u16-same : (at to : ℕ) → to ≡ by + at → at + 2 ≤ n → u16At s at ≡ u16At r to
   unfolding u16At
-  u16-same at h = rw (same at (omega arith), same (at + 1) (omega arith))
+  u16-same at to v h = rw (same at to v (omega arith), same (at + 1) (to + 1) (omega arith) (omega arith))
 
-  u32-same : (at : ℕ) → at + 4 ≤ n → u32At s at ≡ u32At r at
+  u32-same : (at to : ℕ) → to ≡ by + at → at + 4 ≤ n → u32At s at ≡ u32At r to
   unfolding u32At
-  u32-same at h = rw (same at (omega arith), same (at + 1) (omega arith), same (at + 2) (omega arith), same (at + 3) (omega arith))
+  u32-same at to v h = rw (same at to v (omega arith), same (at + 1) (to + 1) (omega arith) (omega arith), same (at + 2) (to + 2) (omega arith) (omega arith), same (at + 3) (to + 3) (omega arith) (omega arith))
 
-  u64-same : (at : ℕ) → at + 8 ≤ n → u64At s at ≡ u64At r at
+  u64-same : (at to : ℕ) → to ≡ by + at → at + 8 ≤ n → u64At s at ≡ u64At r to
   unfolding u64At
-  u64-same at h = rw (u32-same at (omega arith), u32-same (at + 4) (omega arith))
+  u64-same at to v h = rw (u32-same at to v (omega arith), u32-same (at + 4) (to + 4) (omega arith) (omega arith))
 
-  f64-same : (at : ℕ) → at + 8 ≤ n → f64At s at ≡ f64At r at
-  f64-same at h = ap (finiteOr binary64) (u64-same at h)
+  f64-same : (at to : ℕ) → to ≡ by + at → at + 8 ≤ n → f64At s at ≡ f64At r to
+  f64-same at to v h = ap (finiteOr binary64) (u64-same at to v h)
 
-  f32-same : (at : ℕ) → at + 4 ≤ n → f32At s at ≡ f32At r at
-  f32-same at h = ap (finiteOr binary32) (u32-same at h)
+  f32-same : (at to : ℕ) → to ≡ by + at → at + 4 ≤ n → f32At s at ≡ f32At r to
+  f32-same at to v h = ap (finiteOr binary32) (u32-same at to v h)
 
   -- ---- boxes, affines, strokes
-  pub rect-same : (at : ℕ) → at + 32 ≤ n → rectAt s at ≡ rectAt r at
-  rect-same at h =
-      let a = f64-same at (omega arith) in
-      let b = f64-same (at + 8) (omega arith) in
-      let c = f64-same (at + 16) (omega arith) in
-      let d = f64-same (at + 24) (omega arith) in
+  pub rect-same : (at to : ℕ) → to ≡ by + at → at + 32 ≤ n → rectAt s at ≡ rectAt r to
+  rect-same at to v h =
+      let a = f64-same at to v (omega arith) in
+      let b = f64-same (at + 8) (to + 8) (omega arith) (omega arith) in
+      let c = f64-same (at + 16) (to + 16) (omega arith) (omega arith) in
+      let d = f64-same (at + 24) (to + 24) (omega arith) (omega arith) in
       λ i. record { x0 = a i; y0 = b i; x1 = c i; y1 = d i }
 
-  affine-same : (at : ℕ) → at + 48 ≤ n → affineAt s at ≡ affineAt r at
-  affine-same at h =
-      let a = f64-same at (omega arith) in
-      let b = f64-same (at + 8) (omega arith) in
-      let c = f64-same (at + 16) (omega arith) in
-      let d = f64-same (at + 24) (omega arith) in
-      let e = f64-same (at + 32) (omega arith) in
-      let f = f64-same (at + 40) (omega arith) in
+  affine-same : (at to : ℕ) → to ≡ by + at → at + 48 ≤ n → affineAt s at ≡ affineAt r to
+  affine-same at to v h =
+      let a = f64-same at to v (omega arith) in
+      let b = f64-same (at + 8) (to + 8) (omega arith) (omega arith) in
+      let c = f64-same (at + 16) (to + 16) (omega arith) (omega arith) in
+      let d = f64-same (at + 24) (to + 24) (omega arith) (omega arith) in
+      let e = f64-same (at + 32) (to + 32) (omega arith) (omega arith) in
+      let f = f64-same (at + 40) (to + 40) (omega arith) (omega arith) in
       λ i. record { a = a i; b = b i; c = c i; d = d i; e = e i; f = f i }
 
-  stroke-same : (at : ℕ) → at + 27 ≤ n → strokeAt s at ≡ strokeAt r at
-  stroke-same at h =
-      let w = f64-same at (omega arith) in
-      let j = same (at + 8) (omega arith) in
-      let l = f64-same (at + 9) (omega arith) in
-      let p = same (at + 17) (omega arith) in
-      let q = same (at + 18) (omega arith) in
-      let d = u64-same (at + 19) (omega arith) in
+  stroke-same : (at to : ℕ) → to ≡ by + at → at + 27 ≤ n → strokeAt s at ≡ strokeAt r to
+  stroke-same at to v h =
+      let w = f64-same at to v (omega arith) in
+      let j = same (at + 8) (to + 8) (omega arith) (omega arith) in
+      let l = f64-same (at + 9) (to + 9) (omega arith) (omega arith) in
+      let p = same (at + 17) (to + 17) (omega arith) (omega arith) in
+      let q = same (at + 18) (to + 18) (omega arith) (omega arith) in
+      let d = u64-same (at + 19) (to + 19) (omega arith) (omega arith) in
       λ i. record { width = w i; join = joinOf (j i); «miter_limit» = l i; «start_cap» = capOf (p i); «end_cap» = capOf (q i); dash = d i }
 
-  pub glyph-same-at : (at : ℕ) → at + 45 ≤ n → glyphAt s at ≡ glyphAt r at
-  glyph-same-at at h =
-      let d = u32-same (at + 1) (omega arith) in
-      let x = f32-same (at + 5) (omega arith) in
-      let y = f32-same (at + 9) (omega arith) in
-      let b = rect-same (at + 13) (omega arith) in
+  pub glyph-same-at : (at to : ℕ) → to ≡ by + at → at + 45 ≤ n → glyphAt s at ≡ glyphAt r to
+  glyph-same-at at to v h =
+      let d = u32-same (at + 1) (to + 1) (omega arith) (omega arith) in
+      let x = f32-same (at + 5) (to + 5) (omega arith) (omega arith) in
+      let y = f32-same (at + 9) (to + 9) (omega arith) (omega arith) in
+      let b = rect-same (at + 13) (to + 13) (omega arith) (omega arith) in
       λ i. record { id = d i; x = x i; y = y i; bounds = b i }
 
   -- ---- commands
-  fill-same : (at : ℕ) → at + 97 ≤ n → fillAt s at ≡ fillAt r at
-  fill-same at h =
-      let p = u64-same (at + 1) (omega arith) in
-      let b = rect-same (at + 9) (omega arith) in
-      let t = affine-same (at + 41) (omega arith) in
-      let k = u64-same (at + 89) (omega arith) in
+  fill-same : (at to : ℕ) → to ≡ by + at → at + 97 ≤ n → fillAt s at ≡ fillAt r to
+  fill-same at to v h =
+      let p = u64-same (at + 1) (to + 1) (omega arith) (omega arith) in
+      let b = rect-same (at + 9) (to + 9) (omega arith) (omega arith) in
+      let t = affine-same (at + 41) (to + 41) (omega arith) (omega arith) in
+      let k = u64-same (at + 89) (to + 89) (omega arith) (omega arith) in
       λ i. FillPath (p i) (b i) (t i) (k i)
 
-  stroke-path-same : (at : ℕ) → at + 124 ≤ n → strokePathAt s at ≡ strokePathAt r at
-  stroke-path-same at h =
-      let p = u64-same (at + 1) (omega arith) in
-      let b = rect-same (at + 9) (omega arith) in
-      let t = affine-same (at + 41) (omega arith) in
-      let z = stroke-same (at + 97) (omega arith) in
-      let k = u64-same (at + 89) (omega arith) in
+  stroke-path-same : (at to : ℕ) → to ≡ by + at → at + 124 ≤ n → strokePathAt s at ≡ strokePathAt r to
+  stroke-path-same at to v h =
+      let p = u64-same (at + 1) (to + 1) (omega arith) (omega arith) in
+      let b = rect-same (at + 9) (to + 9) (omega arith) (omega arith) in
+      let t = affine-same (at + 41) (to + 41) (omega arith) (omega arith) in
+      let z = stroke-same (at + 97) (to + 97) (omega arith) (omega arith) in
+      let k = u64-same (at + 89) (to + 89) (omega arith) (omega arith) in
       λ i. StrokePath (p i) (b i) (t i) (z i) (k i)
 
-  run-same : (at : ℕ) → at + 103 ≤ n → runAt s at ≡ runAt r at
-  run-same at h =
-      let f = u64-same (at + 1) (omega arith) in
-      let z = f32-same (at + 9) (omega arith) in
-      let t = affine-same (at + 13) (omega arith) in
-      let k = u64-same (at + 61) (omega arith) in
-      let b = rect-same (at + 69) (omega arith) in
-      let c = u16-same (at + 101) (omega arith) in
+  run-same : (at to : ℕ) → to ≡ by + at → at + 103 ≤ n → runAt s at ≡ runAt r to
+  run-same at to v h =
+      let f = u64-same (at + 1) (to + 1) (omega arith) (omega arith) in
+      let z = f32-same (at + 9) (to + 9) (omega arith) (omega arith) in
+      let t = affine-same (at + 13) (to + 13) (omega arith) (omega arith) in
+      let k = u64-same (at + 61) (to + 61) (omega arith) (omega arith) in
+      let b = rect-same (at + 69) (to + 69) (omega arith) (omega arith) in
+      let c = u16-same (at + 101) (to + 101) (omega arith) (omega arith) in
       λ i. GlyphRun (f i) (z i) (t i) (k i) (b i) (c i)
 
-  scene-same : (at : ℕ) → at + 105 ≤ n → sceneAt s at ≡ sceneAt r at
-  scene-same at h =
-      let c = u64-same (at + 1) (omega arith) in
-      let g = u64-same (at + 9) (omega arith) in
-      let k = u64-same (at + 17) (omega arith) in
-      let t = affine-same (at + 25) (omega arith) in
-      let b = rect-same (at + 73) (omega arith) in
+  scene-same : (at to : ℕ) → to ≡ by + at → at + 105 ≤ n → sceneAt s at ≡ sceneAt r to
+  scene-same at to v h =
+      let c = u64-same (at + 1) (to + 1) (omega arith) (omega arith) in
+      let g = u64-same (at + 9) (to + 9) (omega arith) (omega arith) in
+      let k = u64-same (at + 17) (to + 17) (omega arith) (omega arith) in
+      let t = affine-same (at + 25) (to + 25) (omega arith) (omega arith) in
+      let b = rect-same (at + 73) (to + 73) (omega arith) (omega arith) in
       λ i. Scene (c i) (g i) (k i) (t i) (b i)
 
-  pub command-same : (at : ℕ) → at + lengthOf (getD s at 0) ≤ n → n ≤ length s → n ≤ length r → commandAt s at ≡ commandAt r at
+  pub command-same : (at to : ℕ) → to ≡ by + at → at + lengthOf (getD s at 0) ≤ n → n ≤ length s → by + n ≤ length r → commandAt s at ≡ commandAt r to
   unfolding commandAt
-  command-same at h p q =
+  command-same at to v h p q =
       let b = getD s at 0 in
-      let e : getD r at 0 ≡ b = sym (same at (omega (arith, length-pos b))) in
+      let e : getD r to 0 ≡ b = sym (same at to v (omega (arith, length-pos b))) in
       let u : leb (at + lengthOf b) (length s) ≡ true = le-leb (at + lengthOf b) (length s) (omega arith) in
-      let v : leb (at + lengthOf b) (length r) ≡ true = le-leb (at + lengthOf b) (length r) (omega arith) in
-      rw (e, u, v)
-      (pick-both (eqb b 3) _ _ _ _ (λ t. fill-same at (omega (arith, at-byte at n b 3 h (eqb-true b 3 t), length-fill)))
-      λ t. pick-both (eqb b 4) _ _ _ _ (λ t. stroke-path-same at (omega (arith, at-byte at n b 4 h (eqb-true b 4 t), length-stroke)))
-      λ t. pick-both (eqb b 5) _ _ _ _ (λ t. run-same at (omega (arith, at-byte at n b 5 h (eqb-true b 5 t), length-run)))
-      λ t. pick-both (eqb b 7) _ _ _ _ (λ t. scene-same at (omega (arith, at-byte at n b 7 h (eqb-true b 7 t), length-scene))) (λ t. refl))
+      let w : leb (to + lengthOf b) (length r) ≡ true = le-leb (to + lengthOf b) (length r) (omega arith) in
+      rw (e, u, w)
+      (pick-both (eqb b 3) _ _ _ _ (λ t. fill-same at to v (omega (arith, at-byte at n b 3 h (eqb-true b 3 t), length-fill)))
+      λ t. pick-both (eqb b 4) _ _ _ _ (λ t. stroke-path-same at to v (omega (arith, at-byte at n b 4 h (eqb-true b 4 t), length-stroke)))
+      λ t. pick-both (eqb b 5) _ _ _ _ (λ t. run-same at to v (omega (arith, at-byte at n b 5 h (eqb-true b 5 t), length-run)))
+      λ t. pick-both (eqb b 7) _ _ _ _ (λ t. scene-same at to v (omega (arith, at-byte at n b 7 h (eqb-true b 7 t), length-scene))) (λ t. refl))
 
   -- ---- operands
-  finite-same : (k at : ℕ) → at + 8 * k ≤ n → finiteFrom s at k ≡ finiteFrom r at k
+  finite-same : (m at to : ℕ) → to ≡ by + at → at + 8 * m ≤ n → finiteFrom s at m ≡ finiteFrom r to m
   unfolding finiteFrom
-  finite-same zero at h = refl
-  finite-same (suc k) at h =
-      let u = u64-same at (omega arith) in
-      let v = finite-same k (at + 8) (omega arith) in
-      λ i. finite (ofBits binary64 (u i)) && v i
+  finite-same zero at to v h = refl
+  finite-same (suc m) at to v h =
+      let u = u64-same at to v (omega arith) in
+      let y = finite-same m (at + 8) (to + 8) (omega arith) (omega arith) in
+      λ i. finite (ofBits binary64 (u i)) && y i
 
-  single-same : (at : ℕ) → at + 4 ≤ n → finiteF32 s at ≡ finiteF32 r at
-  single-same at h = ap (λ (z : ℕ). finite (ofBits binary32 z)) (u32-same at h)
+  single-same : (at to : ℕ) → to ≡ by + at → at + 4 ≤ n → finiteF32 s at ≡ finiteF32 r to
+  single-same at to v h = ap (λ (z : ℕ). finite (ofBits binary32 z)) (u32-same at to v h)
 
-  pub operands-same : (at b : ℕ) → at + lengthOf b ≤ n → operandsAt s at b ≡ operandsAt r at b
+  pub operands-same : (at to b : ℕ) → to ≡ by + at → at + lengthOf b ≤ n → operandsAt s at b ≡ operandsAt r to b
   unfolding operandsAt finiteStroke finiteRun finiteGlyph
-  operands-same at b h =
-      pick-both (eqb b 1) _ _ _ _ (λ t. let k = at-byte at n b 1 h (eqb-true b 1 t) in ap four (finite-same 4 (at + 1) (omega (arith, k, length-clip))))
-      λ t. pick-both (eqb b 3) _ _ _ _ (λ t. let k = at-byte at n b 3 h (eqb-true b 3 t) in ap four (finite-same 10 (at + 9) (omega (arith, k, length-fill))))
+  operands-same at to b v h =
+      pick-both (eqb b 1) _ _ _ _ (λ t. let k = at-byte at n b 1 h (eqb-true b 1 t) in ap four (finite-same 4 (at + 1) (to + 1) (omega arith) (omega (arith, k, length-clip))))
+      λ t. pick-both (eqb b 3) _ _ _ _ (λ t. let k = at-byte at n b 3 h (eqb-true b 3 t) in ap four (finite-same 10 (at + 9) (to + 9) (omega arith) (omega (arith, k, length-fill))))
       λ t. pick-both (eqb b 4) _ _ _ _ (λ t. let k : at + 124 ≤ n = omega (arith, at-byte at n b 4 h (eqb-true b 4 t), length-stroke) in
-      let j = same (at + 105) (omega arith) in
-      let p = same (at + 114) (omega arith) in
-      let q = same (at + 115) (omega arith) in
-      let u = finite-same 10 (at + 9) (omega arith) in
-      let v = finite-same 1 (at + 97) (omega arith) in
-      let w = finite-same 1 (at + 106) (omega arith) in
-      λ i. pick (codesFit (j i) (p i) (q i)) (four (u i && (v i && w i))) 3)
+      let j = same (at + 105) (to + 105) (omega arith) (omega arith) in
+      let p = same (at + 114) (to + 114) (omega arith) (omega arith) in
+      let q = same (at + 115) (to + 115) (omega arith) (omega arith) in
+      let u = finite-same 10 (at + 9) (to + 9) (omega arith) (omega arith) in
+      let y = finite-same 1 (at + 97) (to + 97) (omega arith) (omega arith) in
+      let w = finite-same 1 (at + 106) (to + 106) (omega arith) (omega arith) in
+      λ i. pick (codesFit (j i) (p i) (q i)) (four (u i && (y i && w i))) 3)
       λ t. pick-both (eqb b 5) _ _ _ _ (λ t. let k : at + 103 ≤ n = omega (arith, at-byte at n b 5 h (eqb-true b 5 t), length-run) in
-      let u = single-same (at + 9) (omega arith) in
-      let v = finite-same 6 (at + 13) (omega arith) in
-      let w = finite-same 4 (at + 69) (omega arith) in
-      ap four (λ i. u i && (v i && w i)))
+      let u = single-same (at + 9) (to + 9) (omega arith) (omega arith) in
+      let y = finite-same 6 (at + 13) (to + 13) (omega arith) (omega arith) in
+      let w = finite-same 4 (at + 69) (to + 69) (omega arith) (omega arith) in
+      ap four (λ i. u i && (y i && w i)))
       λ t. pick-both (eqb b 6) _ _ _ _ (λ t. let k : at + 45 ≤ n = omega (arith, at-byte at n b 6 h (eqb-true b 6 t), length-glyph) in
-      let u = single-same (at + 5) (omega arith) in
-      let v = single-same (at + 9) (omega arith) in
-      let w = finite-same 4 (at + 13) (omega arith) in
-      ap four (λ i. u i && (v i && w i)))
-      λ t. pick-both (eqb b 7) _ _ _ _ (λ t. let k = at-byte at n b 7 h (eqb-true b 7 t) in ap four (finite-same 10 (at + 25) (omega (arith, k, length-scene)))) (λ t. refl)
+      let u = single-same (at + 5) (to + 5) (omega arith) (omega arith) in
+      let y = single-same (at + 9) (to + 9) (omega arith) (omega arith) in
+      let w = finite-same 4 (at + 13) (to + 13) (omega arith) (omega arith) in
+      ap four (λ i. u i && (y i && w i)))
+      λ t. pick-both (eqb b 7) _ _ _ _ (λ t. let k = at-byte at n b 7 h (eqb-true b 7 t) in ap four (finite-same 10 (at + 25) (to + 25) (omega arith) (omega (arith, k, length-scene)))) (λ t. refl)

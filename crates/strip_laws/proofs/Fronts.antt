@@ -1,85 +1,35 @@
--- P1: a strip that is read alone is read alike in front of other bytes, with the same commands. Assumes nothing.
+-- P1: a strip that is read alone is read alike in front of other bytes. P2: what is made of a strip behind other bytes depends on the strip alone, and its
+-- positions shift. Both with the same commands. Assumes nothing.
 use mathlib.Core.Path.{_≡_, refl, sym, ap, _∙_, subst}
-use mathlib.Core.Bool.{true}
+use mathlib.Core.Logic.{_⊎_, inl, inr, ⊎-elim}
 use mathlib.Core.List.{List, [], _∷_, _++_}
 use Prim.Native.Nat.{ℕ, zero, suc, _+_, _-_, _*_, _≤_, _<_}
 use native.Mathlib.Omega.{arith}
-use lib.Dec.{leb, ltb, eqb}
 use lib.ListN.{length, getD, length-append, List·getD-append}
-use borrow.Author.Tests.{leb-true, ltb-true, ltb-false, eqb-true}
-use Rattle.lists.specs.Pick.{pick}
-use Rattle.lists.proofs.Picks.{pick-cases}
 use Rattle.geometry.specs.declared.Rect.{Rect}
-use Rattle.affine.specs.Affines.{tryTransform}
 use Rattle.commands.specs.declared.DrawCommand.{DrawCommand}
-use Rattle.commands.specs.Bounds.{glyphCount, transformOf, tryWith}
-use Rattle.strip_format.specs.Format.{lengthOf, commandAt, glyphsFrom}
-use Rattle.strip_format.proofs.Lengths.{length-clip, length-run, length-glyph}
-use Rattle.operand_checks.specs.Operands.{operandsAt}
+use Rattle.commands.specs.Bounds.{Command, glyphCount}
+use Rattle.strip_format.specs.Format.{commandAt, glyphsFrom}
 use Rattle.strip.specs.declared.Cursor.{Cursor}
 use Rattle.strip.specs.declared.Step.{Step}
 use Rattle.strip.specs.declared.Step.the-variants.{Next, Clip, Pop, Draw, End, Refused}
 use Rattle.strip.specs.declared.Answer.{Answer}
 use Rattle.strip.specs.declared.Answer.the-variants.{Read, Refused as TurnedAway}
-use Rattle.strip.specs.Steps.{startAt, dueFits, onBox, clipStep, drawn, drawStep, runStep, unite, glyphRead, lastStep, glyphStep, effectOf, stepAt}
+use Rattle.strip.specs.Steps.{startAt, stepAt}
 use Rattle.strip.specs.Reading.{onStep, readFrom, readStrip, commandOf, Listing, noted, onNext, listFrom, commandsOf}
-use Rattle.strip.proofs.Effects.{due-glyph, step-effect}
+use Rattle.strip.proofs.Moves.{Moved, step-moves}
 use Rattle.strip_laws.specs.Limits.{Whole}
-use Rattle.strip_laws.proofs.Steps.{opened, Kept}
+use Rattle.strip_laws.proofs.Steps.{Kept}
 use Rattle.strip_laws.proofs.Runs.{InRun, step-in-run, Draws, step-draws}
-use Rattle.strip_laws.proofs.Alike.{pick-both, at-byte, u16-same, rect-same, glyph-same-at, command-same, operands-same}
+use Rattle.strip_laws.proofs.Alike.{glyph-same-at, command-same}
+use Rattle.strip_laws.proofs.Shifts.{Shifted, StepAlike, nexts, clips, pops, draws, ends, turns, Goes, step-alike}
 
--- the run whose glyphs are due stands within the first n bytes
-abbrev Known : List ℕ → ℕ → Cursor → Type 0
-Known s n st = 0 < st .due → st .run + lengthOf (getD s (st .run) 0) ≤ n
-
-known : (s : List ℕ) (st : Cursor) → InRun s st → Known s (length s) st
-known s st h k = let b = h k in subst (λ (y : ℕ). st .run + lengthOf y ≤ length s) (sym (b .byte)) (omega (arith, b .fits, length-run))
-
-module _ (s r : List ℕ) (n : ℕ) (same : (i : ℕ) → i < n → getD s i 0 ≡ getD r i 0) (st : Cursor) where
-  clip-same : st .at + 33 ≤ n → clipStep s st ≡ clipStep r st
-  unfolding clipStep
-  clip-same h =
-      let b = rect-same s r n same (st .at + 1) (omega arith) in
-      λ i. pick (leb 32 (st .depth)) (Refused 6 (st .at)) (pick (leb 4096 (st .clips)) (Refused 6 (st .at)) (Clip (opened st) (b i)))
-
-  draw-same : (len : ℕ) → commandAt s (st .at) ≡ commandAt r (st .at) → drawStep s st len ≡ drawStep r st len
-  unfolding drawStep
-  draw-same len e = λ i. pick (leb 4096 (st .commands)) (Refused 6 (st .at)) (onBox (st .at) (tryWith (e i) (st .united)) (λ box. Draw (drawn st len 0) (st .at) box))
-
-  run-same : st .at + 103 ≤ n → commandAt s (st .at) ≡ commandAt r (st .at) → runStep s st ≡ runStep r st
-  unfolding runStep
-  run-same h e =
-      let u = u16-same s r n same (st .at + 101) (omega arith) in
-      let d = draw-same 103 e in
-      λ i. pick (eqb (u i) 0) (d i) (pick (leb 4096 (st .commands)) (Refused 6 (st .at)) (Next (drawn st 103 (u i))))
-
-  glyph-same : st .at + 45 ≤ n → commandAt s (st .run) ≡ commandAt r (st .run) → glyphStep s st ≡ glyphStep r st
-  unfolding glyphStep lastStep
-  glyph-same h c =
-      let g = rect-same s r n same (st .at + 13) (omega arith) in
-      λ i. pick (leb 16384 (st .glyphs)) (Refused 6 (st .at)) (onBox (st .at) (tryTransform (transformOf (c i)) (g i)) (λ own. pick (eqb (st .due) 1) (onBox (st .at) (tryTransform (transformOf (c i)) (unite st (g i))) (λ whole. Draw (glyphRead st (g i)) (st .run) whole)) (Next (glyphRead st (g i)))))
-
-  module _ (p : n ≤ length s) (q : n ≤ length r) where
-    effect-same : (b : ℕ) → getD s (st .at) 0 ≡ b → dueFits b (st .due) ≡ true → Known s n st → st .at + lengthOf b ≤ n → effectOf s st b ≡ effectOf r st b
-    unfolding effectOf
-    effect-same b is due known h =
-        let own = command-same s r n same (st .at) (subst (λ (y : ℕ). st .at + lengthOf y ≤ n) (sym is) h) p q in
-        pick-both (eqb b 0) _ _ _ _ (λ t. refl)
-        λ t. pick-both (eqb b 1) _ _ _ _ (λ t. clip-same (omega (arith, at-byte (st .at) n b 1 h (eqb-true b 1 t), length-clip)))
-        λ t. pick-both (eqb b 2) _ _ _ _ (λ t. refl)
-        λ t. pick-both (eqb b 5) _ _ _ _ (λ t. run-same (omega (arith, at-byte (st .at) n b 5 h (eqb-true b 5 t), length-run)) own)
-        λ t. pick-both (eqb b 6) _ _ _ _ (λ t. glyph-same (omega (arith, at-byte (st .at) n b 6 h (eqb-true b 6 t), length-glyph)) (command-same s r n same (st .run) (known (due-glyph b (st .due) (eqb-true b 6 t) due)) p q))
-        λ t. draw-same (lengthOf b) own
-
--- a step that is not turned away
-abbrev Goes : Step → Type 0
-Goes (Next t) = Unit {0}
-Goes (Clip t box) = Unit {0}
-Goes (Pop t) = Unit {0}
-Goes (Draw t at box) = Unit {0}
-Goes (End t) = Unit {0}
-Goes (Refused n p) = ⊥
+-- the same answer, `by` bytes further on
+abbrev pub AnswerAlike : ℕ → Answer → Answer → Type 0
+AnswerAlike by (Read c) (Read d) = Shifted by c d
+AnswerAlike by (Read c) (TurnedAway n q) = ⊥
+AnswerAlike by (TurnedAway m p) (Read d) = ⊥
+AnswerAlike by (TurnedAway m p) (TurnedAway n q) = (n ≡ m) × (q ≡ by + p)
 
 -- an answer that is a refusal
 abbrev Away : Answer → Type 0
@@ -97,104 +47,108 @@ goes (Draw t at box) k c e = tt
 goes (End t) k c e = tt
 goes (Refused n p) k c e = turned n p c e
 
-module _ (s r : List ℕ) (more : length s ≤ length r) (same : (i : ℕ) → i < length s → getD s i 0 ≡ getD r i 0) where
-  pub step-same : (st : Cursor) → InRun s st → Goes (stepAt s st) → stepAt r st ≡ stepAt s st
-  unfolding stepAt
-  step-same st h =
-      pick-cases M (ltb (st .at) (length s)) _ _
-      (λ a. pick-cases M (leb b 7) _ _
-      (λ e. pick-cases M (dueFits b (st .due)) _ _
-      (λ d. pick-cases M (ltb (length s - st .at) (lengthOf b)) _ _ (λ e no-step. absurd no-step)
-      (λ l. pick-cases M (eqb (operandsAt s (st .at) b) 0) _ _ (λ o goes. whole (ltb-true (st .at) (length s) a) (leb-true b 7 e) d (ltb-false (length s - st .at) (lengthOf b) l) (eqb-true (operandsAt s (st .at) b) 0 o)) (λ e no-step. absurd no-step)))
-      (λ e no-step. absurd no-step))
-      (λ e no-step. absurd no-step))
-      (λ e no-step. absurd no-step)
-    where
-      b : ℕ
-      b = getD s (st .at) 0
+module _ (s r : List ℕ) (by : ℕ) (same : (i j : ℕ) → j ≡ by + i → i < length s → getD s i 0 ≡ getD r j 0) (more : by + length s ≤ length r) where
+  -- ---- the commands
+  glyphs-same : (k at to : ℕ) → to ≡ by + at → (0 < k → at + 45 * k ≤ length s) → glyphsFrom s at k ≡ glyphsFrom r to k
+  unfolding glyphsFrom
+  glyphs-same zero at to e h = refl
+  glyphs-same (suc k) at to e h =
+      let l = h (omega arith) in
+      let g = glyph-same-at s r by (length s) same at to e (omega arith) in
+      let rest = glyphs-same k (at + 45) (to + 45) (omega arith) (λ u. omega arith) in
+      λ i. g i ∷ rest i
 
-      M : Step → Type 0
-      M x = Goes x → stepAt r st ≡ x
+  listed-same : (at to : ℕ) (under : List Rect) → to ≡ by + at → Whole s at → commandOf s at under ≡ commandOf r to under
+  listed-same at to under e w =
+      let d = command-same s r by (length s) same at to e (w .fits) (omega arith) more in
+      let g : glyphsFrom s (at + 103) (glyphCount (commandAt s at)) ≡ glyphsFrom r (to + 103) (glyphCount (commandAt r to)) = glyphs-same (glyphCount (commandAt s at)) (at + 103) (to + 103) (omega arith) (w .glyphs) ∙ ap (λ (x : DrawCommand). glyphsFrom r (to + 103) (glyphCount x)) d in
+      λ i. record { draw = d i; glyphs = g i; clips = under }
 
-      whole : st .at < length s → b ≤ 7 → dueFits b (st .due) ≡ true → lengthOf b ≤ length s - st .at → operandsAt s (st .at) b ≡ 0 → stepAt r st ≡ effectOf s st b
-      whole a e d l o =
-          let fits : st .at + lengthOf b ≤ length s = omega arith in
-          sym (step-effect r st b (sym (same (st .at) a)) (omega arith) e d (operandsAt r (st .at) b) (omega arith) refl (sym (operands-same s r (length s) same (st .at) b fits) ∙ o))
-          ∙ sym (effect-same s r (length s) same st (omega arith) more b refl d (known s st h) fits)
+  noted-same : (l : Listing) {x y : Step} → StepAlike by x y → Draws s x → noted r l y ≡ noted s l x
+  noted-same l (nexts a) w = refl
+  noted-same l (clips a e) w = ap (λ (b : Rect). record { clips = l .clips ++ (b ∷ []); commands = l .commands }) (sym e)
+  noted-same l (pops a) w = refl
+  noted-same l (draws {p = p} {q = q} a e f) w = let c = sym (listed-same p q (l .clips) e w) in λ i. record { clips = l .clips; commands = l .commands ++ (c i ∷ []) }
+  noted-same l (ends a) w = refl
+  noted-same l (turns e) w = refl
 
-  -- ---- reading, in at least as many steps
-  module _ (c : Cursor) where
-    go-read : (k m : ℕ) → ((t : Cursor) → InRun s t → readFrom k s t ≡ Read c → readFrom m r t ≡ Read c) → (x : Step) → Kept (InRun s) (λ t. Unit {0}) x → onStep x (λ t. readFrom k s t) ≡ Read c → onStep x (λ t. readFrom m r t) ≡ Read c
-    go-read k m f (Next t) h e = f t h e
-    go-read k m f (Clip t box) h e = f t h e
-    go-read k m f (Pop t) h e = f t h e
-    go-read k m f (Draw t at box) h e = f t h e
-    go-read k m f (End t) h e = e
-    go-read k m f (Refused n p) h e = e
+  -- ---- reading: s is read, or both inputs end alike
+  abbrev Sure : Answer → Type 0
+  Sure x = ((c : Cursor) × (x ≡ Read c)) ⊎ (length r ≡ by + length s)
 
-    read-same : (k m : ℕ) (st : Cursor) → k ≤ m → InRun s st → readFrom k s st ≡ Read c → readFrom m r st ≡ Read c
-    unfolding readFrom
-    read-same zero m st l h e = absurd (turned 2 (length s) c e)
-    read-same (suc k) zero st l h e = absurd (omega arith)
-    read-same (suc k) (suc m) st l h e =
-        ap (λ (x : Step). onStep x (λ t. readFrom m r t)) (step-same st h (goes (stepAt s st) (λ t. readFrom k s t) c e))
-        ∙ go-read k m (λ t g f. read-same k m t (omega arith) g f) (stepAt s st) (step-in-run s st h) e
+  record Both (k m : ℕ) (st to : Cursor) (l : Listing) : Type 0 where
+    answers : AnswerAlike by (readFrom k s st) (readFrom m r to)
+    lists : listFrom m r to l ≡ listFrom k s st l
 
-    -- ---- the list
-    glyphs-same : (k at : ℕ) → at + 45 * k ≤ length s → glyphsFrom s at k ≡ glyphsFrom r at k
-    unfolding glyphsFrom
-    glyphs-same zero at h = refl
-    glyphs-same (suc k) at h =
-        let g = glyph-same-at s r (length s) same at (omega arith) in
-        let rest = glyphs-same k (at + 45) (omega arith) in
-        λ i. g i ∷ rest i
+  -- a step more
+  module _ (k m : ℕ) (l : Listing) where
+    record After (x y : Step) (w : Listing) : Type 0 where
+      after-answers : AnswerAlike by (onStep x (λ t. readFrom k s t)) (onStep y (λ t. readFrom m r t))
+      after-lists : onNext y l (λ t. listFrom m r t w) ≡ onNext x l (λ t. listFrom k s t w)
 
-    glyphs-none : (at : ℕ) → glyphsFrom s at 0 ≡ glyphsFrom r at 0
-    unfolding glyphsFrom
-    glyphs-none at = refl
+    module _ (st to : Cursor) (far : to .at ≡ by + st .at) (n : length s - st .at < suc k) (o : length r - to .at < suc m) (w : Listing) (f : (t u : Cursor) → Shifted by t u → InRun s t → length s - t .at < k → length r - u .at < m → Sure (readFrom k s t) → Both k m t u w) where
+      on : (t u : Cursor) → Shifted by t u → InRun s t → (st .at < t .at) × (t .at ≤ length s) → Sure (readFrom k s t) → Both k m t u w
+      on t u a i v h = f t u a i (omega (arith, v .0, v .1)) (omega (arith, a .at-is, v .0, v .1)) h
 
-    some-glyphs : (k at : ℕ) → (0 < k → at + 45 * k ≤ length s) → glyphsFrom s at k ≡ glyphsFrom r at k
-    some-glyphs zero at h = glyphs-none at
-    some-glyphs (suc k) at h = glyphs-same (suc k) at (h (omega arith))
+      after : {x y : Step} → StepAlike by x y → Kept (InRun s) (λ t. Unit {0}) x → Moved (length s) st x → Sure (onStep x (λ t. readFrom k s t)) → After x y w
+      after (nexts {c} {d} a) i v h = let b = on c d a i v h in record { after-answers = b .answers; after-lists = b .lists }
+      after (clips {c} {d} a e) i v h = let b = on c d a i v h in record { after-answers = b .answers; after-lists = b .lists }
+      after (pops {c} {d} a) i v h = let b = on c d a i v h in record { after-answers = b .answers; after-lists = b .lists }
+      after (draws {c} {d} a e g) i v h = let b = on c d a i v h in record { after-answers = b .answers; after-lists = b .lists }
+      after (ends a) i v h = record { after-answers = a; after-lists = refl }
+      after (turns e) i v h = record { after-answers = (refl, e); after-lists = refl }
 
-    listed-same : (at : ℕ) (under : List Rect) → Whole s at → commandOf s at under ≡ commandOf r at under
-    listed-same at under w =
-        let d = command-same s r (length s) same at (w .fits) (omega arith) more in
-        let g : glyphsFrom s (at + 103) (glyphCount (commandAt s at)) ≡ glyphsFrom r (at + 103) (glyphCount (commandAt r at)) = some-glyphs (glyphCount (commandAt s at)) (at + 103) (w .glyphs) ∙ ap (λ (x : DrawCommand). glyphsFrom r (at + 103) (glyphCount x)) d in
-        λ i. record { draw = d i; glyphs = g i; clips = under }
+  both : (k m : ℕ) (st to : Cursor) (l : Listing) → Shifted by st to → InRun s st → length s - st .at < k → length r - to .at < m → Sure (readFrom k s st) → Both k m st to l
+  unfolding readFrom listFrom
+  both zero m st to l a i n o h = absurd (omega arith)
+  both (suc k) zero st to l a i n o h = absurd (omega arith)
+  both (suc k) (suc m) st to l a i n o h =
+      let x = step-alike s r by same more st to a i (⊎-elim (λ c. inl (goes (stepAt s st) (λ t. readFrom k s t) (c .0) (c .1))) (λ e. inr e) h) in
+      let w = noted s l (stepAt s st) in
+      let b = after k m l st to (a .at-is) n o w (λ t u a i n o h. both k m t u w a i n o h) x (step-in-run s st i) (step-moves s st) h in
+      record {
+        answers = b .after-answers;
+        lists = ap (λ (z : Listing). onNext (stepAt r to) l (λ t. listFrom m r t z)) (noted-same l x (step-draws s st i)) ∙ b .after-lists;
+      }
 
-    noted-same : (l : Listing) (x : Step) → Draws s x → noted s l x ≡ noted r l x
-    noted-same l (Next t) w = refl
-    noted-same l (Clip t box) w = refl
-    noted-same l (Pop t) w = refl
-    noted-same l (Draw t at box) w = let e = listed-same at (l .clips) w in λ i. record { clips = l .clips; commands = l .commands ++ (e i ∷ []) }
-    noted-same l (End t) w = refl
-    noted-same l (Refused n p) w = refl
+  -- from an offset of s, and from `by` bytes further on in r
+  whole : (at to : ℕ) → to ≡ by + at → Sure (readStrip s at) → Both (suc (length s)) (suc (length r)) (startAt at) (startAt to) (record { clips = []; commands = [] })
+  whole at to e h = both (suc (length s)) (suc (length r)) (startAt at) (startAt to) (record { clips = []; commands = [] }) record { at-is = e; depth-is = refl; clips-are = refl; commands-are = refl; glyphs-are = refl; due-is = refl; run-is = λ k. absurd (omega arith); united-is = refl } (λ k. absurd (omega arith)) (omega arith) (omega arith) h
 
-    go-list : (k m : ℕ) (o l : Listing) → ((t : Cursor) → InRun s t → readFrom k s t ≡ Read c → listFrom m r t l ≡ listFrom k s t l) → (x : Step) → Kept (InRun s) (λ t. Unit {0}) x → onStep x (λ t. readFrom k s t) ≡ Read c → onNext x o (λ t. listFrom m r t l) ≡ onNext x o (λ t. listFrom k s t l)
-    go-list k m o l f (Next t) h e = f t h e
-    go-list k m o l f (Clip t box) h e = f t h e
-    go-list k m o l f (Pop t) h e = f t h e
-    go-list k m o l f (Draw t at box) h e = f t h e
-    go-list k m o l f (End t) h e = refl
-    go-list k m o l f (Refused n p) h e = refl
+  pub answers-alike : (at to : ℕ) → to ≡ by + at → Sure (readStrip s at) → AnswerAlike by (readStrip s at) (readStrip r to)
+  answers-alike at to e h = whole at to e h .answers
 
-    list-same : (k m : ℕ) (st : Cursor) (l : Listing) → k ≤ m → InRun s st → readFrom k s st ≡ Read c → listFrom m r st l ≡ listFrom k s st l
-    unfolding readFrom listFrom
-    list-same zero m st l b h e = absurd (turned 2 (length s) c e)
-    list-same (suc k) zero st l b h e = absurd (omega arith)
-    list-same (suc k) (suc m) st l b h e =
-        ap (λ (x : Step). onNext x l (λ t. listFrom m r t (noted r l x))) (step-same st h (goes (stepAt s st) (λ t. readFrom k s t) c e))
-        ∙ ap (λ (z : Listing). onNext (stepAt s st) l (λ t. listFrom m r t z)) (sym (noted-same l (stepAt s st) (step-draws s st h)))
-        ∙ go-list k m l (noted s l (stepAt s st)) (λ t g f. list-same k m t (noted s l (stepAt s st)) (omega arith) g f) (stepAt s st) (step-in-run s st h) e
+  pub lists-alike : (at to : ℕ) → to ≡ by + at → Sure (readStrip s at) → commandsOf r to ≡ commandsOf s at
+  lists-alike at to e h = ap (λ (l : Listing). l .commands) (whole at to e h .lists)
 
--- "a strip accepted alone" reads the same in front of other bytes: it ends at the same cursor, with the same commands
+-- the cursor of an answer that is alike one that was read
+read-of : (by : ℕ) (c : Cursor) (x y : Answer) → x ≡ Read c → AnswerAlike by x y → (d : Cursor) × (y ≡ Read d) × Shifted by c d
+read-of by c x (Read d) e a = (d, refl, subst (λ (z : Answer). AnswerAlike by z (Read d)) e a)
+read-of by c x (TurnedAway n q) e a = absurd (subst (λ (z : Answer). AnswerAlike by z (TurnedAway n q)) e a)
+
+-- ---- P1: "a strip accepted alone" reads the same in front of other bytes: it ends at the same place with the same counts and commands
 module _ (s t : List ℕ) (at : ℕ) (c : Cursor) (read : readStrip s at ≡ Read c) where
-  longer : length s ≤ length (s ++ t)
+  in-front : (i j : ℕ) → j ≡ 0 + i → i < length s → getD s i 0 ≡ getD (s ++ t) j 0
+  in-front i j e h = let k : i ≡ j = omega arith in sym (List·getD-append s t 0 i h) ∙ ap (λ (x : ℕ). getD (s ++ t) x 0) k
+
+  longer : 0 + length s ≤ length (s ++ t)
   longer = omega (arith, length-append s t)
 
-  pub front-read : readStrip (s ++ t) at ≡ Read c
-  front-read = read-same s (s ++ t) longer (λ i h. sym (List·getD-append s t 0 i h)) c (suc (length s)) (suc (length (s ++ t))) (startAt at) (omega (arith, longer)) (λ k. absurd (omega arith)) read
+  pub front-read : (d : Cursor) × (readStrip (s ++ t) at ≡ Read d) × Shifted 0 c d
+  front-read = read-of 0 c (readStrip s at) (readStrip (s ++ t) at) read (answers-alike s (s ++ t) 0 in-front longer at at (omega arith) (inl (c, read)))
 
   pub front-list : commandsOf (s ++ t) at ≡ commandsOf s at
-  front-list = ap (λ (l : Listing). l .commands) (list-same s (s ++ t) longer (λ i h. sym (List·getD-append s t 0 i h)) c (suc (length s)) (suc (length (s ++ t))) (startAt at) (record { clips = []; commands = [] }) (omega (arith, longer)) (λ k. absurd (omega arith)) read)
+  front-list = lists-alike s (s ++ t) 0 in-front longer at at (omega arith) (inl (c, read))
+
+-- ---- P2: what is made of a strip behind other bytes is what is made of it alone, `length u` bytes further on
+behind : (u t : List ℕ) (i j : ℕ) → j ≡ length u + i → i < length t → getD t i 0 ≡ getD (u ++ t) j 0
+behind [] t i j e h = let k : i ≡ j = omega arith in ap (λ (x : ℕ). getD t x 0) k
+behind (a ∷ u) t i zero e h = absurd (omega arith)
+behind (a ∷ u) t i (suc j) e h = behind u t i j (omega arith) h
+
+module _ (u t : List ℕ) where
+  pub behind-answer : AnswerAlike (length u) (readStrip t 0) (readStrip (u ++ t) (length u))
+  behind-answer = answers-alike t (u ++ t) (length u) (behind u t) (omega (arith, length-append u t)) 0 (length u) (omega arith) (inr (length-append u t))
+
+  pub behind-list : commandsOf (u ++ t) (length u) ≡ commandsOf t 0
+  behind-list = lists-alike t (u ++ t) (length u) (behind u t) (omega (arith, length-append u t)) 0 (length u) (omega arith) (inr (length-append u t))

@@ -5,4 +5,6 @@ pub mod Numbers
 pub mod Alike
 pub mod Runs
 pub mod Boxes
+pub mod Offsets
+pub mod Shifts
 pub mod Fronts
