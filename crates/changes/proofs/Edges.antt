@@ -2,7 +2,7 @@
 -- have none. Assumes nothing.
 use mathlib.Core.Path.{_≡_}
 use mathlib.Core.Bool.{true}
-use mathlib.Core.List.{List, [], _∷_, _++_}
+use mathlib.Core.List.{List, [], _∷_}
 use lib.Ieee.{Float}
 use Rattle.lists.specs.Pick.{pick}
 use Rattle.lists.specs.Members.{All}

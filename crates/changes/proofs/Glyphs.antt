@@ -3,12 +3,11 @@
 use mathlib.Core.Path.{_≡_, refl}
 use mathlib.Core.Bool.{Bool, true, false}
 use mathlib.Core.Logic.{_⊎_, inl, inr}
-use mathlib.Core.List.{List, [], _∷_, _++_}
+use mathlib.Core.List.{List, [], _∷_}
 use Prim.Native.Nat.{ℕ, _^_, _<_}
 use Rattle.lists.specs.Pick.{pick}
 use Rattle.lists.specs.Members.{All}
 use Rattle.lists.proofs.Members.{all-left, all-right}
-use Rattle.geometry.specs.declared.Rect.{Rect}
 use Rattle.geometry.specs.Boxes.{union}
 use Rattle.geometry.specs.Pixels.{meets, touches}
 use Rattle.geometry.proofs.Edges.{Ordered}

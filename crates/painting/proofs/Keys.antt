@@ -1,6 +1,6 @@
 -- Runs that are alike give glyphs that are the same the same key, by value. Assumes nothing.
 use mathlib.Core.Path.{_≡_, refl}
-use mathlib.Core.Bool.{Bool, true, false, _&&_}
+use mathlib.Core.Bool.{Bool, true, _&&_}
 use lib.Dec.{T, eqb}
 use lib.Ieee.{binary32, eq, toBits}
 use lib.Ieee.Fits.{and-l, and-r, and-i}

@@ -4,19 +4,19 @@ use mathlib.Core.Bool.{Bool, true, false, _&&_}
 use mathlib.Core.Logic.{_⊎_, inl, inr, ⊎-elim}
 use mathlib.Core.List.{List, [], _∷_, map}
 use mathlib.Core.Option.{Option, none, some}
-use Prim.Native.Nat.{ℕ, _+_, _-_, _/_, _≤_, _<_}
+use Prim.Native.Nat.{ℕ, _+_, _-_}
 use native.Mathlib.Omega.{arith}
-use lib.Dec.{T, leb, ltb}
+use lib.Dec.{leb, ltb}
 use lib.ListN.{getD}
 use borrow.Author.Tests.{le-leb, lt-ltb}
 use Rattle.lists.specs.Pick.{pick}
-use Rattle.lists.specs.Members.{All, Any, Pairs, In}
+use Rattle.lists.specs.Members.{All, Any, In}
 use Rattle.lists.proofs.Members.{all-map, all-of, any-find, in-all, pairs-with}
 use Rattle.lists.proofs.Bools.{holds, not-both, and-true}
 use Rattle.geometry.specs.declared.Rect.{Rect}
 use Rattle.device.specs.declared.DeviceRegion.{DeviceRegion}
 use Rattle.device.specs.declared.Converted.the-variants.{Region}
-use Rattle.device.specs.Region.{has, bottom}
+use Rattle.device.specs.Region.{has}
 use Rattle.commands.specs.Bounds.{Command, bounds}
 use Rattle.index_words.specs.Painting.{paintAll, paintAt}
 use Rattle.candidates.specs.Table.{candidates, refusal}
@@ -26,10 +26,10 @@ use Rattle.schedule_laws.specs.Placed.{Covers, Placed, Clear, Schedulable}
 use Rattle.schedule_laws.proofs.AllBands.{row-band, no-share}
 use Rattle.schedule_laws.proofs.Boxes.{has-covers, boxes-schedulable}
 use Rattle.changes.specs.Changes.{diffDirty}
-use Rattle.painting.specs.Painters.{Pixel, Key, Rules, GlyphRule}
+use Rattle.painting.specs.Painters.{Pixel, Key, Rules}
 use Rattle.painting.proofs.Alike.{Sound}
 use Rattle.painting.proofs.Schedules.{uncovered-alike, candidates-paint}
-use Rattle.panels.specs.Panels.{Planner, Frame, Ordering, Apart, InBand, isAccepted, lastAfter, Used, now, later, OrderedBy, Orders, paintWhole, paintRegion, paintRegions, State, start, repaint, step, SamePanels, Planned, Agree, PanelsAgree}
+use Rattle.panels.specs.Panels.{Planner, Frame, Apart, InBand, isAccepted, Used, now, later, OrderedBy, Orders, paintWhole, paintRegion, paintRegions, State, start, repaint, step, SamePanels, Planned, Agree, PanelsAgree}
 use Rattle.panels.proofs.Plans.{boxesSince, GoodLast, Call, Plans}
 
 -- ---- a region's pixels, as a test and as a record
@@ -43,9 +43,6 @@ covers-test r p q c = and-true (leb (r .x) p && ltb p (r .x + r .width)) (leb (r
     (and-true (leb (r .y) q) (ltb q (r .y + r .height)) (le-leb (r .y) q (c .from-top)) (lt-ltb q (r .y + r .height) (c .to-bottom)))
 
 module _ (w h b : ℕ) (P : Planner) (good : P .Strip → Type 0) (L : Plans w h b P good) {C : Type 0} (background : C) {M : Command → Type 0} {paint : Command → Pixel w h → C → C} {mark : Key → Pixel w h → C → C} (absent : Command) (R : Rules w h C M paint mark) where
-  abbrev Shows : Type 0
-  Shows = Pixel w h → C
-
   abbrev shown : List Command → Pixel w h → C
   shown cs px = paintAll (λ c. paint c px) cs background
 
@@ -77,14 +74,11 @@ module _ (w h b : ℕ) (P : Planner) (good : P .Strip → Type 0) (L : Plans w h
     rs : List DeviceRegion
     rs = P .regions last (f .strip) (f .space)
 
-    words : List ℕ
-    words = P .words last (f .strip) (f .space)
-
     sizes : Sizes w h b
     sizes = L .sizes last (f .strip) (f .space) call
 
     boxes : List Rect
-    boxes = boxesSince w h P last (f .strip)
+    boxes = boxesSince (P .commands) w h last (f .strip)
 
     scheduled : schedule w h b boxes ≡ rs
     unfolding rs boxes

@@ -16,9 +16,9 @@ use Rattle.painting.proofs.Alike.{Sound}
 use Rattle.panels.specs.Panels.{Planner}
 
 -- what is scheduled: the whole screen at the first frame, then what changed since the last accepted strip
-abbrev pub boxesSince : ℕ → ℕ → (P : Planner) → Option (P .Strip) → P .Strip → List Rect
-boxesSince w h P none s = record { x0 = whole 0; y0 = whole 0; x1 = whole w; y1 = whole h } ∷ []
-boxesSince w h P (some old) s = diffDirty (P .commands old) (P .commands s)
+abbrev pub boxesSince : {S : Type 0} → (S → List Command) → ℕ → ℕ → Option S → S → List Rect
+boxesSince commands w h none s = record { x0 = whole 0; y0 = whole 0; x1 = whole w; y1 = whole h } ∷ []
+boxesSince commands w h (some old) s = diffDirty (commands old) (commands s)
 
 -- where there is a last accepted strip, it is good: it reads as one strip, alone and before another. Of other bytes nothing can be said, for they
 -- may be read with another end.
@@ -39,6 +39,6 @@ pub record Plans (w h b : ℕ) (P : Planner) (good : P .Strip → Type 0) : Type
   -- P3: no edge of a box is a NaN
   pub sound : (last : Option (P .Strip)) (s : P .Strip) (z : P .Space) → Call P good last s z → All Sound (P .commands s)
   -- P2: the old list is that of the last accepted strip
-  pub regions : (last : Option (P .Strip)) (s : P .Strip) (z : P .Space) → Call P good last s z → P .regions last s z ≡ schedule w h b (boxesSince w h P last s)
+  pub regions : (last : Option (P .Strip)) (s : P .Strip) (z : P .Space) → Call P good last s z → P .regions last s z ≡ schedule w h b (boxesSince (P .commands) w h last s)
   -- the index of the new list, and whatever words were lent behind it
   pub words : (last : Option (P .Strip)) (s : P .Strip) (z : P .Space) → Call P good last s z → (rest : List ℕ) × (P .words last s z ≡ indexWords b (rowCount h b) (map bounds (P .commands s)) ++ rest)
