@@ -2,10 +2,10 @@
 use mathlib.Core.Path.{_≡_, refl, sym, ap, _∙_, subst}
 use mathlib.Core.Logic.{⊎-elim}
 use mathlib.Core.List.{List, [], _∷_, _++_}
-use Prim.Native.Nat.{ℕ, zero, suc, _<_, max}
-use native.Mathlib.Nat.{not-suc-le-zero}
+use Prim.Native.Nat.{ℕ, zero, suc, _≤_, _<_, max}
+use native.Mathlib.Nat.{not-suc-le-zero, le-of-suc-le-suc}
 use native.Mathlib.Omega.{arith}
-use lib.ListN.{length}
+use lib.ListN.{length, getD}
 use Rattle.lists.specs.Members.{Any}
 use Rattle.lists.proofs.Members.{any-left, any-right, any-append}
 use Rattle.geometry.specs.declared.Rect.{Rect}
@@ -26,6 +26,31 @@ dirty-places (o ∷ os) [] =
 dirty-places (o ∷ os) (n ∷ ns) =
     let e : suc (max (length os) (length ns)) ≡ max (length (o ∷ os)) (length (n ∷ ns)) = omega arith in
     ap (λ l. changedBounds o n ++ l) (dirty-places os ns) ∙ ap (boundsTo (boundsAt (o ∷ os) (n ∷ ns))) e
+
+-- ---- the boxes of a place, by what stands at it in the two lists
+module _ (d : Command) where
+  pub common-place : (os ns : List Command) (i : ℕ) → i < length os → i < length ns → boundsAt os ns i ≡ changedBounds (getD os i d) (getD ns i d)
+  unfolding boundsAt
+  common-place [] ns i k l = absurd (not-suc-le-zero k)
+  common-place (o ∷ os) [] i k l = absurd (not-suc-le-zero l)
+  common-place (o ∷ os) (n ∷ ns) zero k l = refl
+  common-place (o ∷ os) (n ∷ ns) (suc i) k l = common-place os ns i (le-of-suc-le-suc k) (le-of-suc-le-suc l)
+
+  pub old-place : (os ns : List Command) (i : ℕ) → i < length os → length ns ≤ i → boundsAt os ns i ≡ bounds (getD os i d) ∷ []
+  unfolding boundsAt
+  old-place [] ns i k l = absurd (not-suc-le-zero k)
+  old-place (o ∷ os) [] zero k l = refl
+  old-place (o ∷ os) [] (suc i) k l = old-place os [] i (le-of-suc-le-suc k) (omega arith)
+  old-place (o ∷ os) (n ∷ ns) zero k l = absurd (not-suc-le-zero l)
+  old-place (o ∷ os) (n ∷ ns) (suc i) k l = old-place os ns i (le-of-suc-le-suc k) (le-of-suc-le-suc l)
+
+  pub new-place : (os ns : List Command) (i : ℕ) → length os ≤ i → i < length ns → boundsAt os ns i ≡ bounds (getD ns i d) ∷ []
+  unfolding boundsAt
+  new-place os [] i k l = absurd (not-suc-le-zero l)
+  new-place [] (n ∷ ns) zero k l = refl
+  new-place [] (n ∷ ns) (suc i) k l = new-place [] ns i (omega arith) (le-of-suc-le-suc l)
+  new-place (o ∷ os) (n ∷ ns) zero k l = absurd (not-suc-le-zero k)
+  new-place (o ∷ os) (n ∷ ns) (suc i) k l = new-place os ns i (le-of-suc-le-suc k) (le-of-suc-le-suc l)
 
 -- ---- some box of the places
 module _ (P : Rect → Type 0) where
