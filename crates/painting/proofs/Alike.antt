@@ -45,7 +45,7 @@ module _ {w h : ℕ} {C : Type 0} {M : Command → Type 0} {paint : Command → 
   glyph-of c g = mark (keyOf c g) px
 
   -- D5: a command whose box does not meet the pixel is silent
-  pub unmet-silent : (c : Command) → M c → Unmet px (bounds c) → Silent (λ c. paint c px) c
+  unmet-silent : (c : Command) → M c → Unmet px (bounds c) → Silent (λ c. paint c px) c
   unmet-silent c m u k = R .untouched c m px (unmet-untouched (bounds c) (px .p) (px .q) u) k
 
   -- ---- D3

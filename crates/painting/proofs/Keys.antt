@@ -13,7 +13,7 @@ use Rattle.equality.specs.Drawings.{runAlike, runsAlike, runsAlikeClipped}
 use Rattle.painting.specs.Painters.{isRun, fontOf, sizeOf, brushOf, keyOf, sameKey}
 
 -- what a key has of its run, but for the clip
-abbrev sameInk : DrawCommand → DrawCommand → Bool
+abbrev pub sameInk : DrawCommand → DrawCommand → Bool
 sameInk c d = (eqb (fontOf c) (fontOf d) && eq (sizeOf c) (sizeOf d)) && (sameAffine (transformOf c) (transformOf d) && eqb (brushOf c) (brushOf d))
 
 record Runs (c d : DrawCommand) : Type 0 where
@@ -37,6 +37,14 @@ runs-alike (FillPath path b t brush) d e = absurd e
 runs-alike (StrokePath path b t stroke brush) d e = absurd e
 runs-alike (Scene content generation target t b) d e = absurd e
 
+-- the same key, from what it has of the run, of the clips and of the glyph
+pub key-of-parts : (c d : Command) (g h : Glyph) → T (sameInk (c .draw) (d .draw)) → T (sameClips (c .clips) (d .clips)) → T (sameGlyph g h) → T (sameKey (keyOf c g) (keyOf d h))
+unfolding sameKey sameGlyph
+key-of-parts c d g h i k s =
+    let I = sameInk (c .draw) (d .draw) in
+    let K = sameClips (c .clips) (d .clips) in
+    and-i (I && K) (sameGlyph g h) (and-i I K i k) s
+
 module _ (c d : Command) (e : T (runsAlikeClipped c d)) where
   drawings : Runs (c .draw) (d .draw)
   unfolding runsAlikeClipped
@@ -50,8 +58,5 @@ module _ (c d : Command) (e : T (runsAlikeClipped c d)) where
   new-run = drawings .new-run
 
   pub same-key : (g h : Glyph) → T (sameGlyph g h) → T (sameKey (keyOf c g) (keyOf d h))
-  unfolding runsAlikeClipped sameKey sameGlyph
-  same-key g h s =
-      let K = sameClips (c .clips) (d .clips) in
-      let I = sameInk (c .draw) (d .draw) in
-      and-i (I && K) (sameGlyph g h) (and-i I K (drawings .ink) (and-r (runsAlike (c .draw) (d .draw)) K e)) s
+  unfolding runsAlikeClipped
+  same-key g h s = key-of-parts c d g h (drawings .ink) (and-r (runsAlike (c .draw) (d .draw)) (sameClips (c .clips) (d .clips)) e) s

@@ -2,3 +2,4 @@
 pub mod Keys
 pub mod Alike
 pub mod Schedules
+pub mod Examples
