@@ -1,8 +1,8 @@
 -- L4 and demand 3: whatever the order of the regions, panel B shows what panel A shows. Assumes nothing.
-use mathlib.Core.Path.{_≡_, refl, sym, ap, _∙_, subst}
+use mathlib.Core.Path.{_≡_, refl, sym, _∙_, subst}
 use mathlib.Core.Bool.{Bool, true, false, _&&_}
 use mathlib.Core.Logic.{_⊎_, inl, inr, ⊎-elim}
-use mathlib.Core.List.{List, [], _∷_, map}
+use mathlib.Core.List.{List, [], _∷_, _++_, map}
 use mathlib.Core.Option.{Option, none, some}
 use Prim.Native.Nat.{ℕ, _+_, _-_}
 use native.Mathlib.Omega.{arith}
@@ -13,14 +13,14 @@ use Rattle.lists.specs.Pick.{pick}
 use Rattle.lists.specs.Members.{All, Any, In}
 use Rattle.lists.proofs.Members.{all-map, all-of, any-find, in-all, pairs-with}
 use Rattle.lists.proofs.Bools.{holds, not-both, and-true}
-use Rattle.geometry.specs.declared.Rect.{Rect}
 use Rattle.device.specs.declared.DeviceRegion.{DeviceRegion}
 use Rattle.device.specs.declared.Converted.the-variants.{Region}
 use Rattle.device.specs.Region.{has}
 use Rattle.commands.specs.Bounds.{Command, bounds}
+use Rattle.rows.specs.Rows.{rowCount}
+use Rattle.index_words.specs.Index.{indexWords}
 use Rattle.index_words.specs.Painting.{paintAll, paintAt}
 use Rattle.candidates.specs.Table.{candidates, refusal}
-use Rattle.candidates.proofs.Plans.{plan-accepted}
 use Rattle.scheduler.specs.Schedule.{Sizes, schedule}
 use Rattle.schedule_laws.specs.Placed.{Covers, Placed, Clear, Schedulable}
 use Rattle.schedule_laws.proofs.AllBands.{row-band, no-share}
@@ -28,7 +28,7 @@ use Rattle.schedule_laws.proofs.Boxes.{has-covers, boxes-schedulable}
 use Rattle.changes.specs.Changes.{diffDirty}
 use Rattle.painting.specs.Painters.{Pixel, Key, Rules}
 use Rattle.painting.proofs.Alike.{Sound}
-use Rattle.painting.proofs.Schedules.{uncovered-alike, candidates-paint}
+use Rattle.painting.proofs.Schedules.{candidates-answer, uncovered-alike, candidates-paint}
 use Rattle.panels.specs.Panels.{Planner, Frame, Apart, InBand, isAccepted, Used, now, later, OrderedBy, Orders, paintWhole, paintRegion, paintRegions, State, start, repaint, step, SamePanels, Planned, Agree, PanelsAgree}
 use Rattle.panels.proofs.Plans.{boxesSince, GoodLast, Call, Plans}
 
@@ -71,49 +71,39 @@ module _ (w h b : ℕ) (P : Planner) (good : P .Strip → Type 0) (L : Plans w h
 
   -- ---- an accepted call
   module _ (last : Option (P .Strip)) (f : Frame P) (call : Call P good last (f .strip) (f .space)) where
-    rs : List DeviceRegion
+    abbrev rs : List DeviceRegion
     rs = P .regions last (f .strip) (f .space)
+
+    abbrev ns : List Command
+    ns = P .commands (f .strip)
+
+    abbrev words : List ℕ
+    words = P .words last (f .strip) (f .space)
 
     sizes : Sizes w h b
     sizes = L .sizes last (f .strip) (f .space) call
 
-    boxes : List Rect
-    boxes = boxesSince (P .commands) w h last (f .strip)
+    index : (rest : List ℕ) × (words ≡ indexWords b (rowCount h b) (map bounds ns) ++ rest)
+    index = L .words last (f .strip) (f .space) call
 
-    scheduled : schedule w h b boxes ≡ rs
-    unfolding rs boxes
-    scheduled = sym (L .regions last (f .strip) (f .space) call)
+    regions-placed : Schedulable w h b rs
+    regions-placed = subst (Schedulable w h b) (sym (L .regions last (f .strip) (f .space) call)) (boxes-schedulable sizes (boxesSince (P .commands) w h last (f .strip)))
 
-    schedule-plan : Schedulable w h b rs
-    schedule-plan = subst (Schedulable w h b) scheduled (boxes-schedulable sizes boxes)
-
+    -- S2, S3, I3
     planned : Planned P w h b background paint absent last f
-    unfolding rs
     planned =
-        let S = schedule-plan in
+        let S = regions-placed in
         record {
           apart = pairs-with (Placed w h b) (Clear b) Apart (λ r s x y c p q. no-share w h b p q r s x y c) rs (S .placed) (S .clear);
           in-band = all-map (Placed w h b) (InBand b) (λ r x. sym (row-band w h b (r .y + r .height - 1) r x (omega (arith, x .on .some-height)) (omega (arith, x .on .some-height)))) rs (S .placed);
-          answered = all-map (Placed w h b) (λ r. refusal w h b (r .y) (P .words last (f .strip) (f .space)) ≡ 0) answer rs (S .placed);
+          answered = all-map (Placed w h b) (λ r. refusal w h b (r .y) words ≡ 0) (candidates-answer sizes (map bounds ns) words (index .0) (index .1)) rs (S .placed);
         }
-      where
-        answer : (r : DeviceRegion) → Placed w h b r → refusal w h b (r .y) (P .words last (f .strip) (f .space)) ≡ 0
-        answer r x =
-            let k = L .words last (f .strip) (f .space) call in
-            let s = L .sizes last (f .strip) (f .space) call in
-            ap (λ l. refusal w h b (r .y) l) (k .1)
-            ∙ plan-accepted w h b (r .y) (map bounds (P .commands (f .strip))) (k .0)
-            (record { some = s .some-width; limit = s .width-most })
-            (record { some = s .some-height; limit = s .height-most })
-            (record { some = s .some-band; limit = s .band-most })
-            (omega (arith, x .on .some-height, x .on .down))
 
     -- L3 for each region that panel B paints
-    each-shows : (px : Pixel w h) → All M (P .commands (f .strip)) → (order : List DeviceRegion) → All (λ r. In r rs) order → All (λ r. has (Region r) (px .p) (px .q) ≡ true → region-shows (P .commands (f .strip)) (P .words last (f .strip) (f .space)) px r ≡ shown (P .commands (f .strip)) px) order
+    each-shows : (px : Pixel w h) → All M ns → (order : List DeviceRegion) → All (λ r. In r rs) order → All (λ r. has (Region r) (px .p) (px .q) ≡ true → region-shows ns words px r ≡ shown ns px) order
     each-shows px m order i =
-        let k = L .words last (f .strip) (f .space) call in
-        all-map (λ r. In r rs) (λ r. has (Region r) (px .p) (px .q) ≡ true → region-shows (P .commands (f .strip)) (P .words last (f .strip) (f .space)) px r ≡ shown (P .commands (f .strip)) px)
-        (λ r j e. candidates-paint sizes R px (P .commands (f .strip)) m (L .sound last (f .strip) (f .space) call) (P .words last (f .strip) (f .space)) (k .0) (k .1) r (in-all (Placed w h b) r rs j (schedule-plan .placed)) (test-covers r (px .p) (px .q) e) absent background)
+        all-map (λ r. In r rs) (λ r. has (Region r) (px .p) (px .q) ≡ true → region-shows ns words px r ≡ shown ns px)
+        (λ r j e. candidates-paint sizes R px ns m (L .sound last (f .strip) (f .space) call) words (index .0) (index .1) r (in-all (Placed w h b) r rs j (regions-placed .placed)) (test-covers r (px .p) (px .q) e) absent background)
         order i
 
   -- ---- the trace
@@ -131,7 +121,7 @@ module _ (w h b : ℕ) (P : Planner) (good : P .Strip → Type 0) (L : Plans w h
       (λ e. e)
       (λ e. e .0 ∙ sym (same px) ∙ sh .0 px ∙ uncovered-alike (sizes (some old) f call) R px (P .commands old) (P .commands (f .strip)) (sh .1) m (sh .2) (L .sound (some old) (f .strip) (f .space) call) (uncovered (e .1)) background)
       (any-order (P .commands (f .strip)) (P .words (some old) (f .strip) (f .space)) px (shown (P .commands (f .strip)) px) (f .order) panelB
-      (each-shows (some old) f call px m (f .order) (unfold rs in ord .only))))
+      (each-shows (some old) f call px m (f .order) (ord .only))))
     where
       -- no region in the order has the pixel, so no region has it
       uncovered : All (λ r. has (Region r) (px .p) (px .q) ≡ false) (f .order) → Any (Covers (px .p) (px .q)) (schedule w h b (diffDirty (P .commands old) (P .commands (f .strip)))) → ⊥
