@@ -43,7 +43,7 @@ unfolding Any
 any-behind P (Region r) l h = inr h
 any-behind P Nothing l h = h
 
-has-covers : (c : Converted) (p q : ℕ) (l : List DeviceRegion) → has c p q ≡ true → Any (Covers p q) (unlessNothing c l)
+pub has-covers : (c : Converted) (p q : ℕ) (l : List DeviceRegion) → has c p q ≡ true → Any (Covers p q) (unlessNothing c l)
 unfolding Any
 has-covers (Region r) p q l e =
     let A = leb (r .x) p in
