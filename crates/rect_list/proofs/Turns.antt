@@ -2,11 +2,12 @@
 use mathlib.Core.Path.{_≡_, refl, sym, ap, _∙_}
 use mathlib.Core.List.{List, [], _++_}
 use Prim.Native.Nat.{ℕ, _+_, _≤_}
+use native.Mathlib.Omega.{arith}
 use lib.ListN.{length}
 use lib.Ieee.{Float}
 use Rattle.geometry.specs.declared.Rect.{Rect}
-use Rattle.rect_list.specs.Rects.{Filled, filled, after, Added}
-use Rattle.rect_list.proofs.Appends.{after-append, length-after}
+use Rattle.rect_list.specs.Rects.{Filled, filled, after, Added, Listed}
+use Rattle.rect_list.proofs.Appends.{after-append, length-after, listed}
 
 -- `whole` was to be appended to n boxes in xs; there are m in ys, and `rest` is left
 pub record Going (xs : List Float) (n : ℕ) (whole : List Rect) (ys : List Float) (m : ℕ) (rest : List Rect) : Type 0 where
@@ -34,3 +35,7 @@ going-end {k} {xs} {ys} {n} {m} {whole} {rest} g e h = record { state = ap (afte
 
 pub going-length : {xs ys : List Float} {n m : ℕ} {whole rest : List Rect} → Going xs n whole ys m rest → length ys ≡ length xs
 going-length {xs} {ys} {n} {m} {whole} {rest} g = sym (length-after (filled ys m) rest) ∙ ap (λ (f : Filled). length (f .words)) (g .same) ∙ length-after (filled xs n) whole
+
+-- the same, of a list that began with nothing
+pub going-listed : {k : ℕ} {xs ys zs : List Float} {m p : ℕ} {whole rest done : List Rect} → Going xs 0 whole ys m rest → rest ≡ done → Added k ys m done zs p → Listed xs whole zs p
+going-listed {k} {xs} {ys} {zs} {m} {p} {whole} g e a = listed p xs whole zs p (going-last {j = p} g e (omega arith) a)
