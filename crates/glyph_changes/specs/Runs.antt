@@ -20,6 +20,10 @@ glyphsOf s r = glyphsFrom s (r .glyphs) (r .count)
 abbrev pub Inside : List ℕ → ℕ → ℕ → Type 0
 Inside s at n = 0 < n → at + 45 * n ≤ length s
 
+-- what changed from one to another is fewer boxes than this, since each count has 32 bits
+abbrev pub mostBoxes : ℕ
+mostBoxes = 8589934592
+
 -- a glyph's "transformed, clipped" box
 unfoldable pub windowed : List Float → Run → Glyph → Rect
 windowed bs r g = windowGlyphBounds bs (r .clip) (r .transform) (g .bounds)

@@ -6,7 +6,7 @@ ghost use lib.ListN.{length};
 ghost use Rattle.operand_equality.specs.Operands.{equalGlyphs};
 ghost use Rattle.strip_format.specs.Format.{glyphsFrom};
 ghost use Rattle.rect_list.specs.Rects.{Added};
-ghost use Rattle.glyph_changes.specs.Runs.{glyphsOf, Inside, windowed, boxesBy, changedBy};
+ghost use Rattle.glyph_changes.specs.Runs.{glyphsOf, Inside, mostBoxes, windowed, boxesBy, changedBy};
 use affine::Affine;
 use commands::Glyph;
 use geometry::Rect;
@@ -93,8 +93,8 @@ pub fn changed_glyph_bounds(
     rects: &mut [f64],
     n: usize,
 ) -> usize
-    requires { ⌜ (8 * old .clip ≤ length (now boxes)) × (8 * new .clip ≤ length (now boxes)) × Inside (now s) (old .glyphs) (old .count) × Inside (now s) (new .glyphs) (new .count) × (n + old .count + new .count < 9223372036854775808) ⌝ }
-    ensures { λ r. ⌜ Added (old .count + new .count) (now (rects .entry)) n (changedBy (windowed (now (boxes .entry)) old) (windowed (now (boxes .entry)) new) (glyphsOf (now (s .entry)) old) (glyphsOf (now (s .entry)) new)) (now (rects .exit)) r ⌝ }
+    requires { ⌜ (8 * old .clip ≤ length (now boxes)) × (8 * new .clip ≤ length (now boxes)) × Inside (now s) (old .glyphs) (old .count) × Inside (now s) (new .glyphs) (new .count) × (n + mostBoxes < 9223372036854775808) ⌝ }
+    ensures { λ r. ⌜ Added mostBoxes (now (rects .entry)) n (changedBy (windowed (now (boxes .entry)) old) (windowed (now (boxes .entry)) new) (glyphsOf (now (s .entry)) old) (glyphsOf (now (s .entry)) new)) (now (rects .exit)) r ⌝ }
 {
     let mut m = n;
     let mut p = old.glyphs;

@@ -12,14 +12,16 @@ use Rattle.lists.proofs.Bools.{and-on, and-off, and-true}
 use Rattle.geometry.specs.declared.Rect.{Rect}
 use Rattle.geometry.specs.Boxes.{union}
 use Rattle.commands.specs.declared.Glyph.{Glyph}
-use Rattle.commands.specs.Bounds.{Command, transformOf, bounds, glyphBounds}
+use Rattle.affine.specs.declared.Affine.{Affine}
+use Rattle.commands.specs.declared.DrawCommand.{DrawCommand}
+use Rattle.commands.specs.Bounds.{Command, transformOf, glyphCount, bounds, glyphBounds}
 use Rattle.operand_equality.specs.Operands.{equalGlyphs, sameClips}
 use Rattle.equality.specs.Drawings.{sameDrawing, equal, fillsAlike, runsAlike, runsAlikeClipped}
 use Rattle.differences.specs.Differences.{rectSymmetricDifference}
 use Rattle.clips.specs.Chains.{chain, Rooted}
 use Rattle.display_list.specs.Lists.{offsetAt, clipNumberAt, boxAt, windowGlyphBounds}
 use Rattle.display_list.proofs.Holding.{glyph-bounds-is}
-use Rattle.strip_format.specs.Format.{lengthOf}
+use Rattle.strip_format.specs.Format.{lengthOf, commandAt}
 use Rattle.changes.specs.Changes.{changedGlyphs, changedBounds}
 use Rattle.stored_lists.specs.Stored.{Stored, commandIn}
 use Rattle.glyph_changes.specs.Runs.{glyphsOf, windowed, changedBy}
@@ -33,7 +35,12 @@ module _ (n : ℕ) (s : List ℕ) (bs : List Float) (ns is : List ℕ) (ibs : Li
   room-at = (omega (arith, w .items), omega (arith, w .boxes), omega (arith, w .whole i h .fits))
 
   placed-at : Placed (w .used) s bs ns (placedAt s is ibs i)
+  unfolding placedAt
   placed-at = record { clip = w .lower i h; glyphs = w .whole i h .glyphs; transform = refl; box = w .boxed i h }
+
+pub placed-is : (s is : List ℕ) (ibs : List Float) (i : ℕ) {draw : DrawCommand} {n : ℕ} {t : Affine} {b : Rect} → draw ≡ commandAt s (offsetAt is i) → n ≡ glyphCount draw → t ≡ transformOf draw → b ≡ boxAt ibs i → record { command = draw; run = record { glyphs = offsetAt is i + 103; count = n; transform = t; clip = clipNumberAt is i }; bounds = b } ≡ placedAt s is ibs i
+unfolding placedAt
+placed-is s is ibs i p q r e = λ k. record { command = p k; run = record { glyphs = offsetAt is i + 103; count = (q ∙ ap glyphCount p) k; transform = (r ∙ ap transformOf p) k; clip = clipNumberAt is i }; bounds = e k }
 
 -- two of them, once decoded
 pub pair-of : (i j : ℕ) (s : List ℕ) (bs : List Float) (ns is : List ℕ) (ibs : List Float) {a b : PlacedCommand} → Both i j s bs ns is ibs → a ≡ placedAt s is ibs i → b ≡ placedAt s is ibs j → Pair s bs ns a b
@@ -43,6 +50,7 @@ pair-of i j s bs ns is ibs w p q =
 
 module _ (s : List ℕ) (bs : List Float) (ns is : List ℕ) (ibs : List Float) where
   pub changed-are : (i j : ℕ) {a b : PlacedCommand} → a ≡ placedAt s is ibs i → b ≡ placedAt s is ibs j → changedBounds (commandOf s bs ns a) (commandOf s bs ns b) ≡ changedBounds (commandIn s bs ns is i) (commandIn s bs ns is j)
+  unfolding placedAt
   changed-are i j p q = λ t. changedBounds (commandOf s bs ns (p t)) (commandOf s bs ns (q t))
 
 -- ---- two commands

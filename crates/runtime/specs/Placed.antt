@@ -13,10 +13,6 @@ use Rattle.glyph_changes.specs.declared.Run.{Run}
 use Rattle.glyph_changes.specs.Runs.{glyphsOf, Inside}
 use Rattle.runtime.specs.declared.PlacedCommand.{PlacedCommand}
 
--- a change has at most eight parts, or as many boxes as two runs have glyphs, each less than 2 ^ 32
-abbrev pub most : ℕ
-most = 8589934600
-
 -- two places of a list that the space holds
 pub record Both (i j : ℕ) (s : List ℕ) (bs : List Float) (ns is : List ℕ) (ibs : List Float) : Type 0 where
   pub count : ℕ
@@ -29,7 +25,7 @@ abbrev pub runAt : List ℕ → List ℕ → ℕ → Run
 runAt s is i = record { glyphs = offsetAt is i + 103; count = glyphCount (commandAt s (offsetAt is i)); transform = transformOf (commandAt s (offsetAt is i)); clip = clipNumberAt is i }
 
 -- what is decoded of the command at place i
-abbrev pub placedAt : List ℕ → List ℕ → List Float → ℕ → PlacedCommand
+unfoldable pub placedAt : List ℕ → List ℕ → List Float → ℕ → PlacedCommand
 placedAt s is ibs i = record { command = commandAt s (offsetAt is i); run = runAt s is i; bounds = boxAt ibs i }
 
 -- the command that it stands for

@@ -13,7 +13,8 @@ ghost use Rattle.display_list.specs.Lists.{offsetAt};
 ghost use Rattle.changes.specs.Changes.{changedBounds, diffDirty};
 ghost use Rattle.stored_lists.specs.Stored.{Stored, commandIn, commandsIn};
 ghost use Rattle.rect_list.specs.Rects.{Added, Listed};
-ghost use Rattle.runtime.specs.Placed.{most, Both, placedAt, commandOf, Pair, boxesIn};
+ghost use Rattle.glyph_changes.specs.Runs.{mostBoxes};
+ghost use Rattle.runtime.specs.Placed.{Both, placedAt, commandOf, Pair, boxesIn};
 ghost use Rattle.runtime.specs.Work.{workOf};
 use commands::DrawCommand;
 use geometry::Rect;
@@ -82,13 +83,7 @@ fn placed_at(s: &[u8], items: &[u64], item_boxes: &[f64], i: usize) -> PlacedCom
 }
 
 // Whether two commands are equal. Clips, which take the longest walk, are compared where all else is equal.
-fn equal(
-    s: &[u8],
-    boxes: &[f64],
-    below: &[u64],
-    old: PlacedCommand,
-    new: PlacedCommand,
-) -> bool
+fn equal(s: &[u8], boxes: &[f64], below: &[u64], old: PlacedCommand, new: PlacedCommand) -> bool
     requires { ⌜ Pair (now s) (now boxes) (now below) old new ⌝ }
     ensures { λ r. ⌜ r ≡ Drawings.equal (commandOf (now (s .entry)) (now (boxes .entry)) (now (below .entry)) old) (commandOf (now (s .entry)) (now (boxes .entry)) (now (below .entry)) new) ⌝ }
 {
@@ -146,8 +141,8 @@ fn changed_placed(
     rects: &mut [f64],
     n: usize,
 ) -> usize
-    requires { ⌜ Pair (now s) (now boxes) (now below) old new × (n + most < 9223372036854775808) ⌝ }
-    ensures { λ r. ⌜ Added most (now (rects .entry)) n (changedBounds (commandOf (now (s .entry)) (now (boxes .entry)) (now (below .entry)) old) (commandOf (now (s .entry)) (now (boxes .entry)) (now (below .entry)) new)) (now (rects .exit)) r ⌝ }
+    requires { ⌜ Pair (now s) (now boxes) (now below) old new × (n + mostBoxes < 9223372036854775808) ⌝ }
+    ensures { λ r. ⌜ Added mostBoxes (now (rects .entry)) n (changedBounds (commandOf (now (s .entry)) (now (boxes .entry)) (now (below .entry)) old) (commandOf (now (s .entry)) (now (boxes .entry)) (now (below .entry)) new)) (now (rects .exit)) r ⌝ }
 {
     let command = old.command;
     let other = new.command;
@@ -179,8 +174,8 @@ pub fn changed_bounds(
     rects: &mut [f64],
     n: usize,
 ) -> usize
-    requires { ⌜ Both i j (now s) (now boxes) (now below) (now items) (now «item_boxes») × (n + most < 9223372036854775808) ⌝ }
-    ensures { λ r. ⌜ Added most (now (rects .entry)) n (changedBounds (commandIn (now (s .entry)) (now (boxes .entry)) (now (below .entry)) (now (items .entry)) i) (commandIn (now (s .entry)) (now (boxes .entry)) (now (below .entry)) (now (items .entry)) j)) (now (rects .exit)) r ⌝ }
+    requires { ⌜ Both i j (now s) (now boxes) (now below) (now items) (now «item_boxes») × (n + mostBoxes < 9223372036854775808) ⌝ }
+    ensures { λ r. ⌜ Added mostBoxes (now (rects .entry)) n (changedBounds (commandIn (now (s .entry)) (now (boxes .entry)) (now (below .entry)) (now (items .entry)) i) (commandIn (now (s .entry)) (now (boxes .entry)) (now (below .entry)) (now (items .entry)) j)) (now (rects .exit)) r ⌝ }
 {
     let old = placed_at(s, items, item_boxes, i);
     let new = placed_at(s, items, item_boxes, j);

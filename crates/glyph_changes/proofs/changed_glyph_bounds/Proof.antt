@@ -1,5 +1,5 @@
 use Rattle.glyph_changes.proofs.Places.{changed-new, changed-old, changed-same, changed-next, windowed-by, told-by, united-by}
-use Rattle.glyph_changes.specs.Runs.{Inside, glyphsOf, windowed, changedBy}
+use Rattle.glyph_changes.specs.Runs.{Inside, glyphsOf, mostBoxes, windowed, changedBy}
 use Rattle.rect_list.proofs.Turns.{Going, going-start, going-add, going-skip, going-last, going-length}
 use Rattle.rect_list.proofs.Appends.{added-length}
 use Rattle.strip_format.specs.Format.{glyphsFrom}
@@ -14,7 +14,7 @@ use Rattle.glyph_changes.proofs.changed_glyph_bounds.Tie as tie
 
 abbrev Inv-loop : tie.InvT-loop
 Inv-loop s boxes old new rects₀ n m₀ p₀ q₀ i₀ j₀ rects m p q i j =
-    Inside s p i × Inside s q j × (m + i + j ≤ n + old .count + new .count)
+    Inside s p i × Inside s q j × (m + i + j ≤ n + mostBoxes)
     × Going rects₀ n (changedBy (windowed boxes old) (windowed boxes new) (glyphsOf s old) (glyphsOf s new)) rects m (changedBy (windowed boxes old) (windowed boxes new) (glyphsFrom s p i) (glyphsFrom s q j))
 
 abbrev μ-loop : tie.MeasureT-loop

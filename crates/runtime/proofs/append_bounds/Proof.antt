@@ -1,56 +1,49 @@
+use Rattle.runtime.proofs.Changes.{boxes-end, boxes-next}
+use Rattle.runtime.specs.Placed.{boxesIn}
+use Rattle.rect_list.proofs.Turns.{Going, going-start, going-add, going-end, going-length}
+use borrow.Author.Needs.{needs}
+use lib.ListN.{length}
+use Prim.Native.Nat.{_+_, _*_, _≤_, _<_}
+use mathlib.Core.Path.{_≡_}
 use native.Mathlib.Omega.{arith}
 use Rattle.runtime.proofs.append_bounds.Statement.{statement}
 use Rattle.runtime.proofs.append_bounds.Tie as tie
-use Rattle.runtime.proofs.append_bounds.Reads as reads
-use Rattle.runtime.proofs.append_bounds.Lts as lts
-use Rattle.rect_list.proofs.append.Reads as append-reads
-use Rattle.rect_words.proofs.rect_at.Reads as rect-at-reads
 
 abbrev Inv-loop : tie.InvT-loop
-Inv-loop item-boxes first count rects₀ n m₀ p₀ i₀ rects m p i = ?
+Inv-loop item-boxes first count rects₀ n m₀ p₀ i₀ rects m p i = (4 * (p + i) ≤ length item-boxes) × (m + i ≤ n + count) × Going rects₀ n (boxesIn item-boxes first count) rects m (boxesIn item-boxes p i)
 
 abbrev μ-loop : tie.MeasureT-loop
-μ-loop item-boxes first count rects₀ n m₀ p₀ i₀ rects m p i = ?
+μ-loop item-boxes first count rects₀ n m₀ p₀ i₀ rects m p i = i
 
--- src/lib.rt:204:5
 loop-holds : tie.Need-loop-holds Inv-loop μ-loop
-loop-holds c = ?
+loop-holds c = (search needs, search needs, going-start)
 
--- src/lib.rt:205:49
 mul-rect-at : tie.Need-mul-rect-at Inv-loop μ-loop
 mul-rect-at c = omega arith
 
--- src/lib.rt:205:13
 rect-at-requires : tie.Need-rect-at-requires Inv-loop μ-loop
-rect-at-requires c κs = ?
+rect-at-requires c κs = omega (arith, c .before .loop .inv .0, c .loop-test .taken)
 
--- src/lib.rt:206:9
 append-requires : tie.Need-append-requires Inv-loop μ-loop
-append-requires c κs = ?
+append-requires c κs = omega (arith, c .before .before .before .loop .inv .1, c .before .before .loop-test .taken, c .before .before .before .before .before .before .pre .1)
 
--- src/lib.rt:207:9
 add-p : tie.Need-add-p Inv-loop μ-loop
 add-p c = omega arith
 
--- src/lib.rt:208:9
 sub-i : tie.Need-sub-i Inv-loop μ-loop
 sub-i c = omega arith
 
--- src/lib.rt:204:5
 loop-less : tie.Need-loop-less Inv-loop μ-loop
 loop-less c = omega arith
 
--- src/lib.rt:204:5
 loop-again : tie.Need-loop-again Inv-loop μ-loop
-loop-again c = ?
+loop-again c = (omega (arith, c .before .before .before .before .before .before .loop .inv .0, c .before .before .before .before .before .loop-test .taken), omega (arith, c .before .before .append .ensures .most, c .before .before .before .before .before .before .loop .inv .1, c .before .before .before .before .before .loop-test .taken), going-add (c .before .before .before .before .before .before .loop .inv .2) (boxes-next _ _ _ _ (c .before .before .before .before .before .loop-test .taken) (c .before .before .before .before .rect-at .ensures)) (c .before .before .append .ensures))
 
--- src/lib.rt:191:1
 same-length : tie.Need-same-length Inv-loop μ-loop
-same-length c = omega arith
+same-length c = going-length (c .before .loop .inv .2)
 
--- src/lib.rt:191:1
 returns : tie.Need-returns Inv-loop μ-loop
-returns c = ?
+returns c = going-end (c .before .loop .inv .2) (boxes-end _ _ _ (c .loop-test .left)) (omega (arith, c .before .loop .inv .1))
 
 pub append-bounds-spec : {M : Type 1} → statement M
 append-bounds-spec =

@@ -1,32 +1,24 @@
+use Rattle.runtime.proofs.Pairs.{room-at, pair-of, changed-are}
+use Rattle.rect_list.proofs.Appends.{added-as}
+use native.Mathlib.Omega.{arith}
 use borrow.Author.Needs.{needs}
 use Rattle.runtime.proofs.changed_bounds.Statement.{statement}
 use Rattle.runtime.proofs.changed_bounds.Tie as tie
-use Rattle.runtime.proofs.changed_bounds.Reads as reads
-use Rattle.runtime.proofs.changed_bounds.Lts as lts
-use Rattle.runtime.proofs.changed_placed.Reads as changed-placed-reads
-use Rattle.runtime.proofs.placed_at.Reads as placed-at-reads
 
--- src/lib.rt:185:9
 placed-at-requires : tie.Need-placed-at-requires
-placed-at-requires c κs = ?
+placed-at-requires c κs = room-at _ _ _ _ _ _ (c .before .before .before .before .before .before .pre .0 .stored) _ (c .before .before .before .before .before .before .pre .0 .old)
 
--- src/lib.rt:186:9
 placed-at-requires-2 : tie.Need-placed-at-requires-2
-placed-at-requires-2 c κs = ?
+placed-at-requires-2 c κs = room-at _ _ _ _ _ _ (c .before .before .before .before .before .before .before .pre .0 .stored) _ (c .before .before .before .before .before .before .before .pre .0 .new)
 
--- src/lib.rt:187:5
 changed-placed-requires : tie.Need-changed-placed-requires
-changed-placed-requires c κs = ?
+changed-placed-requires c κs = (pair-of _ _ _ _ _ _ _ (c .before .before .before .before .before .before .before .before .before .pre .0) (c .before .before .placed-at .ensures) (c .before .placed-at2 .ensures), c .before .before .before .before .before .before .before .before .before .pre .1)
 
--- src/lib.rt:171:1
-same-length : tie.Need-same-length
-same-length c = search needs
-
--- src/lib.rt:171:1
 returns : tie.Need-returns
-returns c = ?
+returns c = added-as (changed-are _ _ _ _ _ _ _ (c .before .before .before .before .before .placed-at .ensures) (c .before .before .before .before .placed-at2 .ensures)) (omega arith) (c .before .before .changed-placed .ensures)
 
 pub changed-bounds-spec : {M : Type 1} → statement M
 changed-bounds-spec =
     tie.close
-    (tie.spec placed-at-requires placed-at-requires-2 changed-placed-requires same-length returns)
+    (tie.spec
+    placed-at-requires placed-at-requires-2 changed-placed-requires (λ c. search needs) returns)

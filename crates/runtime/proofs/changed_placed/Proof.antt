@@ -1,87 +1,32 @@
+use Rattle.runtime.proofs.Pairs.{rooted, clip-rooms, case-equal, case-fills, case-runs, case-else}
+use Rattle.rect_list.proofs.Appends.{added-as, added-none}
+use native.Mathlib.Omega.{arith}
 use borrow.Author.Needs.{needs}
 use Rattle.runtime.proofs.changed_placed.Statement.{statement}
 use Rattle.runtime.proofs.changed_placed.Tie as tie
-use Rattle.runtime.proofs.changed_placed.Reads as reads
-use Rattle.runtime.proofs.changed_placed.Lts as lts
-use Rattle.equality.proofs.fills_alike.Reads as fills-alike-reads
-use Rattle.geometry.proofs.Rect.union.Reads as union-reads
-use Rattle.glyph_changes.proofs.changed_glyph_bounds.Reads as changed-glyph-bounds-reads
-use Rattle.rect_list.proofs.append.Reads as append-reads
-use Rattle.runtime.proofs.equal.Reads as equal-reads
-use Rattle.runtime.proofs.rect_symmetric_difference.Reads as rect-symmetric-difference-reads
-use Rattle.runtime.proofs.runs_alike.Reads as runs-alike-reads
 
--- src/lib.rt:158:8
-equal-requires : tie.Need-equal-requires
-equal-requires c κs = search needs
-
--- src/lib.rt:159:9
 returns : tie.Need-returns
-returns c = ?
+returns c = added-as (case-equal _ _ _ _ _ (c .before .before .before .before .before .before .before .before .before .before .pre .0) (c .before .equal .ensures) (c .if1 .taken)) (omega arith) (added-none {k = 0})
 
--- src/lib.rt:161:8
-fills-alike-requires : tie.Need-fills-alike-requires
-fills-alike-requires c κs = search needs
-
--- src/lib.rt:162:9
-rect-symmetric-difference-requires : tie.Need-rect-symmetric-difference-requires
-rect-symmetric-difference-requires c κs = search needs
-
--- src/lib.rt:162:9
-same-length : tie.Need-same-length
-same-length c = search needs
-
--- src/lib.rt:162:9
 returns-2 : tie.Need-returns-2
-returns-2 c = ?
+returns-2 c = added-as (case-fills _ _ _ _ _ (c .before .before .before .before .before .before .before .before .before .before .before .before .before .before .before .before .pre .0) (c .before .before .before .before .before .before .before .equal .ensures) (c .before .before .before .before .before .before .if1 .left) (c .before .before .before .before .before .fills-alike .ensures) (c .before .before .before .before .if2 .taken)) (omega arith) (c .before .before .rect-symmetric-difference .ensures)
 
--- src/lib.rt:164:8
 runs-alike-requires : tie.Need-runs-alike-requires
-runs-alike-requires c κs = search needs
+runs-alike-requires c κs = rooted _ _ _ _ _ (c .before .before .before .before .before .before .before .before .before .before .before .before .pre .0)
 
--- src/lib.rt:165:9
 changed-glyph-bounds-requires : tie.Need-changed-glyph-bounds-requires
-changed-glyph-bounds-requires c κs = ?
+changed-glyph-bounds-requires c κs = (clip-rooms _ _ _ _ _ (c .before .before .before .before .before .before .before .before .before .before .before .before .before .before .before .pre .0) .0, clip-rooms _ _ _ _ _ (c .before .before .before .before .before .before .before .before .before .before .before .before .before .before .before .pre .0) .1, c .before .before .before .before .before .before .before .before .before .before .before .before .before .before .before .pre .0 .old .glyphs, c .before .before .before .before .before .before .before .before .before .before .before .before .before .before .before .pre .0 .new .glyphs, omega (arith, c .before .before .before .before .before .before .before .before .before .before .before .before .before .before .before .pre .1))
 
--- src/lib.rt:165:9
-same-length-2 : tie.Need-same-length-2
-same-length-2 c = search needs
-
--- src/lib.rt:165:9
 returns-3 : tie.Need-returns-3
-returns-3 c = ?
+returns-3 c = added-as (case-runs _ _ _ _ _ (c .before .before .before .before .before .before .before .before .before .before .before .before .before .before .before .before .before .before .pre .0) (c .before .before .before .before .before .before .before .before .before .equal .ensures) (c .before .before .before .before .before .before .before .before .if1 .left) (c .before .before .before .before .before .before .before .fills-alike .ensures) (c .before .before .before .before .before .before .if2 .left) (c .before .before .before .before .before .runs-alike .ensures) (c .before .before .before .before .if3 .taken)) (omega arith) (c .before .before .changed-glyph-bounds .ensures)
 
--- src/lib.rt:167:33
-union-requires : tie.Need-union-requires
-union-requires c κs = search needs
-
--- src/lib.rt:167:5
-append-requires : tie.Need-append-requires
-append-requires c κs = search needs
-
--- src/lib.rt:140:1
-same-length-3 : tie.Need-same-length-3
-same-length-3 c = search needs
-
--- src/lib.rt:140:1
 returns-4 : tie.Need-returns-4
-returns-4 c = ?
+returns-4 c = added-as (case-else _ _ _ _ _ (c .before .before .before .before .before .before .before .before .before .before .before .before .before .before .before .before .before .before .before .pre .0) (c .before .before .before .before .before .before .before .before .before .before .equal .ensures) (c .before .before .before .before .before .before .before .before .before .if1 .left) (c .before .before .before .before .before .before .before .before .fills-alike .ensures) (c .before .before .before .before .before .before .before .if2 .left) (c .before .before .before .before .before .before .runs-alike .ensures) (c .before .before .before .before .before .if3 .left) (c .before .before .before .union .ensures)) (omega arith) (c .before .before .append .ensures)
 
 pub changed-placed-spec : {M : Type 1} → statement M
 changed-placed-spec =
     tie.close
     (tie.spec
-    equal-requires
-    returns
-    fills-alike-requires
-    rect-symmetric-difference-requires
-    same-length
-    returns-2
-    runs-alike-requires
-    changed-glyph-bounds-requires
-    same-length-2
-    returns-3
-    union-requires
-    append-requires
-    same-length-3
+    (λ c κs. search needs) returns (λ c κs. search needs) (λ c κs. search needs) (λ c. search needs) returns-2 runs-alike-requires
+    changed-glyph-bounds-requires (λ c. search needs) returns-3 (λ c κs. search needs) (λ c κs. search needs) (λ c. search needs)
     returns-4)

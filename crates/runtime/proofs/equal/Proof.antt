@@ -1,43 +1,25 @@
+use Rattle.runtime.proofs.Pairs.{rooted, equal-on, equal-glyphs-off, equal-off}
 use borrow.Author.Needs.{needs}
 use Rattle.runtime.proofs.equal.Statement.{statement}
 use Rattle.runtime.proofs.equal.Tie as tie
-use Rattle.runtime.proofs.equal.Reads as reads
-use Rattle.runtime.proofs.equal.Lts as lts
-use Rattle.clips.proofs.same_clips.Reads as same-clips-reads
-use Rattle.equality.proofs.same_drawing.Reads as same-drawing-reads
-use Rattle.glyph_changes.proofs.equal_glyphs.Reads as equal-glyphs-reads
 
--- src/lib.rt:101:8
-same-drawing-requires : tie.Need-same-drawing-requires
-same-drawing-requires c κs = search needs
-
--- src/lib.rt:102:12
 equal-glyphs-requires : tie.Need-equal-glyphs-requires
-equal-glyphs-requires c κs = search needs
+equal-glyphs-requires c κs = (c .before .before .before .before .before .before .before .pre .old .glyphs, c .before .before .before .before .before .before .before .pre .new .glyphs)
 
--- src/lib.rt:103:13
 same-clips-requires : tie.Need-same-clips-requires
-same-clips-requires c κs = search needs
+same-clips-requires c κs = rooted _ _ _ _ _ (c .before .before .before .before .before .before .before .before .before .pre)
 
--- src/lib.rt:103:13
 returns : tie.Need-returns
-returns c = ?
+returns c = equal-on _ _ _ _ _ (c .before .before .before .before .before .before .before .before .before .before .pre) (c .before .before .before .before .same-drawing .ensures) (c .before .before .before .if1 .taken) (c .before .before .equal-glyphs .ensures) (c .before .if2 .taken) (c .same-clips .ensures)
 
--- src/lib.rt:105:9
 returns-2 : tie.Need-returns-2
-returns-2 c = ?
+returns-2 c = equal-glyphs-off _ _ _ _ _ (c .before .before .before .before .before .before .before .before .before .pre) (c .before .before .before .same-drawing .ensures) (c .before .before .if1 .taken) (c .before .equal-glyphs .ensures) (c .if2 .left)
 
--- src/lib.rt:85:1
 returns-3 : tie.Need-returns-3
-returns-3 c = ?
+returns-3 c = equal-off _ _ _ _ _ (c .before .before .before .before .before .before .before .pre) (c .before .same-drawing .ensures) (c .if1 .left)
 
 pub equal-spec : {M : Type 1} → statement M
 equal-spec =
     tie.close
     (tie.spec
-    same-drawing-requires
-    equal-glyphs-requires
-    same-clips-requires
-    returns
-    returns-2
-    returns-3)
+    (λ c κs. search needs) equal-glyphs-requires same-clips-requires returns returns-2 returns-3)
