@@ -1,14 +1,14 @@
 -- What changed between runs and between lists, step by step, and the same boxes read from lent space. Assumes nothing.
 use mathlib.Core.Path.{_≡_, refl, sym, ap, _∙_}
 use mathlib.Core.List.{List, [], _∷_, _++_}
-use Prim.Native.Nat.{ℕ, zero, suc, _+_, _-_, _*_, _≤_, _<_}
+use Prim.Native.Nat.{ℕ, zero, suc, _+_, _-_, _≤_, _<_}
 use native.Mathlib.Omega.{arith}
 use lib.Ieee.{Float}
 use Rattle.lists.specs.Pick.{pick}
 use Rattle.geometry.specs.declared.Rect.{Rect}
 use Rattle.geometry.specs.Boxes.{union}
 use Rattle.commands.specs.declared.Glyph.{Glyph}
-use Rattle.commands.specs.Bounds.{Command, bounds, glyphBounds}
+use Rattle.commands.specs.Bounds.{Command, glyphBounds}
 use Rattle.operand_equality.specs.Operands.{sameGlyph}
 use Rattle.display_list.specs.Lists.{boxAt}
 use Rattle.changes.specs.Changes.{changedGlyphs, changedBounds, diffDirty}

@@ -1,32 +1,30 @@
 -- Two commands decoded from lent space: they stand for the commands of the list, and the cases of what changed between them. Assumes nothing.
 use mathlib.Core.Path.{_≡_, refl, sym, ap, _∙_}
 use mathlib.Core.Bool.{Bool, true, false, _&&_}
-use mathlib.Core.List.{List, [], _∷_, _++_}
+use mathlib.Core.List.{List, [], _∷_}
 use Prim.Native.Nat.{ℕ, _+_, _*_, _≤_, _<_}
 use native.Mathlib.Omega.{arith}
-use lib.ListN.{length, getD}
+use lib.ListN.{length}
 use lib.Ieee.{Float}
-use Rattle.lists.specs.Pick.{pick}
 use Rattle.lists.proofs.Picks.{pick-true, pick-false}
 use Rattle.lists.proofs.Bools.{and-on, and-off, and-true}
 use Rattle.geometry.specs.declared.Rect.{Rect}
 use Rattle.geometry.specs.Boxes.{union}
-use Rattle.commands.specs.declared.Glyph.{Glyph}
 use Rattle.affine.specs.declared.Affine.{Affine}
 use Rattle.commands.specs.declared.DrawCommand.{DrawCommand}
 use Rattle.commands.specs.Bounds.{Command, transformOf, glyphCount, bounds, glyphBounds}
 use Rattle.operand_equality.specs.Operands.{equalGlyphs, sameClips}
 use Rattle.equality.specs.Drawings.{sameDrawing, equal, fillsAlike, runsAlike, runsAlikeClipped}
 use Rattle.differences.specs.Differences.{rectSymmetricDifference}
-use Rattle.clips.specs.Chains.{chain, Rooted}
+use Rattle.clips.specs.Chains.{Rooted}
 use Rattle.display_list.specs.Lists.{offsetAt, clipNumberAt, boxAt, windowGlyphBounds}
 use Rattle.display_list.proofs.Holding.{glyph-bounds-is}
-use Rattle.strip_format.specs.Format.{lengthOf, commandAt}
-use Rattle.changes.specs.Changes.{changedGlyphs, changedBounds}
+use Rattle.strip_format.specs.Format.{commandAt}
+use Rattle.changes.specs.Changes.{changedBounds}
 use Rattle.stored_lists.specs.Stored.{Stored, commandIn}
-use Rattle.glyph_changes.specs.Runs.{glyphsOf, windowed, changedBy}
+use Rattle.glyph_changes.specs.Runs.{windowed, changedBy}
 use Rattle.runtime.specs.declared.PlacedCommand.{PlacedCommand}
-use Rattle.runtime.specs.Placed.{Both, placedAt, commandOf, Placed, Pair}
+use Rattle.runtime.specs.Placed.{Both, placedAt, standsFor, Placed, Pair}
 use Rattle.runtime.proofs.Changes.{glyphs-are}
 
 -- ---- a place of the list
@@ -49,17 +47,17 @@ pair-of i j s bs ns is ibs w p q =
     rw (p, q) record { used = t .used; clips = t .clips; old = placed-at (w .count) s bs ns is ibs t i (w .old); new = placed-at (w .count) s bs ns is ibs t j (w .new) }
 
 module _ (s : List ℕ) (bs : List Float) (ns is : List ℕ) (ibs : List Float) where
-  pub changed-are : (i j : ℕ) {a b : PlacedCommand} → a ≡ placedAt s is ibs i → b ≡ placedAt s is ibs j → changedBounds (commandOf s bs ns a) (commandOf s bs ns b) ≡ changedBounds (commandIn s bs ns is i) (commandIn s bs ns is j)
+  pub changed-are : (i j : ℕ) {a b : PlacedCommand} → a ≡ placedAt s is ibs i → b ≡ placedAt s is ibs j → changedBounds (standsFor s bs ns a) (standsFor s bs ns b) ≡ changedBounds (commandIn s bs ns is i) (commandIn s bs ns is j)
   unfolding placedAt
-  changed-are i j p q = λ t. changedBounds (commandOf s bs ns (p t)) (commandOf s bs ns (q t))
+  changed-are i j p q = λ t. changedBounds (standsFor s bs ns (p t)) (standsFor s bs ns (q t))
 
 -- ---- two commands
 module _ (s : List ℕ) (bs : List Float) (ns : List ℕ) (a b : PlacedCommand) (w : Pair s bs ns a b) where
   abbrev c : Command
-  c = commandOf s bs ns a
+  c = standsFor s bs ns a
 
   abbrev d : Command
-  d = commandOf s bs ns b
+  d = standsFor s bs ns b
 
   pub rooted : Rooted bs ns (a .run .clip) (b .run .clip)
   rooted = record { used = w .used; chained = w .clips .chained; one = w .old .clip; other = w .new .clip }
@@ -69,10 +67,9 @@ module _ (s : List ℕ) (bs : List Float) (ns : List ℕ) (a b : PlacedCommand) 
   clip-rooms = (omega (arith, w .old .clip, w .clips .chained .boxes), omega (arith, w .new .clip, w .clips .chained .boxes))
 
   -- equal, by the first test that fails
-  module _ {r : Bool} where
-    pub equal-on : {t u : Bool} → t ≡ sameDrawing (a .command) (b .command) → t ≡ true → u ≡ equalGlyphs (c .glyphs) (d .glyphs) → u ≡ true → r ≡ sameClips (c .clips) (d .clips) → r ≡ equal c d
-    unfolding equal
-    equal-on p e q f v = v ∙ and-on _ _ (and-true _ _ (sym p ∙ e) (sym q ∙ f))
+  pub equal-on : {r t u : Bool} → t ≡ sameDrawing (a .command) (b .command) → t ≡ true → u ≡ equalGlyphs (c .glyphs) (d .glyphs) → u ≡ true → r ≡ sameClips (c .clips) (d .clips) → r ≡ equal c d
+  unfolding equal
+  equal-on p e q f v = v ∙ and-on _ _ (and-true _ _ (sym p ∙ e) (sym q ∙ f))
 
   pub equal-glyphs-off : {t u : Bool} → t ≡ sameDrawing (a .command) (b .command) → t ≡ true → u ≡ equalGlyphs (c .glyphs) (d .glyphs) → u ≡ false → false ≡ equal c d
   unfolding equal

@@ -29,15 +29,15 @@ unfoldable pub placedAt : List ℕ → List ℕ → List Float → ℕ → Place
 placedAt s is ibs i = record { command = commandAt s (offsetAt is i); run = runAt s is i; bounds = boxAt ibs i }
 
 -- the command that it stands for
-abbrev pub commandOf : List ℕ → List Float → List ℕ → PlacedCommand → Command
-commandOf s bs ns a = record { draw = a .command; glyphs = glyphsOf s (a .run); clips = chain bs ns (a .run .clip) }
+abbrev pub standsFor : List ℕ → List Float → List ℕ → PlacedCommand → Command
+standsFor s bs ns a = record { draw = a .command; glyphs = glyphsOf s (a .run); clips = chain bs ns (a .run .clip) }
 
 -- its parts are those of that command, where the space holds so many clips
 pub record Placed (used : ℕ) (s : List ℕ) (bs : List Float) (ns : List ℕ) (a : PlacedCommand) : Type 0 where
   pub clip : a .run .clip ≤ used
   pub glyphs : Inside s (a .run .glyphs) (a .run .count)
   pub transform : a .run .transform ≡ transformOf (a .command)
-  pub box : a .bounds ≡ bounds (commandOf s bs ns a)
+  pub box : a .bounds ≡ bounds (standsFor s bs ns a)
 
 -- ---- two commands
 pub record Pair (s : List ℕ) (bs : List Float) (ns : List ℕ) (a b : PlacedCommand) : Type 0 where

@@ -14,7 +14,7 @@ ghost use Rattle.changes.specs.Changes.{changedBounds, diffDirty};
 ghost use Rattle.stored_lists.specs.Stored.{Stored, commandIn, commandsIn};
 ghost use Rattle.rect_list.specs.Rects.{Added, Listed};
 ghost use Rattle.glyph_changes.specs.Runs.{mostBoxes};
-ghost use Rattle.runtime.specs.Placed.{Both, placedAt, commandOf, Pair, boxesIn};
+ghost use Rattle.runtime.specs.Placed.{Both, placedAt, standsFor, Pair, boxesIn};
 ghost use Rattle.runtime.specs.Work.{workOf};
 use commands::DrawCommand;
 use geometry::Rect;
@@ -85,7 +85,7 @@ fn placed_at(s: &[u8], items: &[u64], item_boxes: &[f64], i: usize) -> PlacedCom
 // Whether two commands are equal. Clips, which take the longest walk, are compared where all else is equal.
 fn equal(s: &[u8], boxes: &[f64], below: &[u64], old: PlacedCommand, new: PlacedCommand) -> bool
     requires { ⌜ Pair (now s) (now boxes) (now below) old new ⌝ }
-    ensures { λ r. ⌜ r ≡ Drawings.equal (commandOf (now (s .entry)) (now (boxes .entry)) (now (below .entry)) old) (commandOf (now (s .entry)) (now (boxes .entry)) (now (below .entry)) new) ⌝ }
+    ensures { λ r. ⌜ r ≡ Drawings.equal (standsFor (now (s .entry)) (now (boxes .entry)) (now (below .entry)) old) (standsFor (now (s .entry)) (now (boxes .entry)) (now (below .entry)) new) ⌝ }
 {
     let command = old.command;
     let other = new.command;
@@ -111,10 +111,10 @@ fn runs_alike(boxes: &[f64], below: &[u64], old: PlacedCommand, new: PlacedComma
     let other = new.command;
     let run = old.run;
     let other_run = new.run;
-    let clip = run.clip;
-    let other_clip = other_run.clip;
+    let number = run.clip;
+    let other_number = other_run.clip;
     if equality::runs_alike(command, other) {
-        return clips::same_clips(boxes, below, clip, other_clip);
+        return clips::same_clips(boxes, below, number, other_number);
     }
     false
 }
@@ -142,7 +142,7 @@ fn changed_placed(
     n: usize,
 ) -> usize
     requires { ⌜ Pair (now s) (now boxes) (now below) old new × (n + mostBoxes < 9223372036854775808) ⌝ }
-    ensures { λ r. ⌜ Added mostBoxes (now (rects .entry)) n (changedBounds (commandOf (now (s .entry)) (now (boxes .entry)) (now (below .entry)) old) (commandOf (now (s .entry)) (now (boxes .entry)) (now (below .entry)) new)) (now (rects .exit)) r ⌝ }
+    ensures { λ r. ⌜ Added mostBoxes (now (rects .entry)) n (changedBounds (standsFor (now (s .entry)) (now (boxes .entry)) (now (below .entry)) old) (standsFor (now (s .entry)) (now (boxes .entry)) (now (below .entry)) new)) (now (rects .exit)) r ⌝ }
 {
     let command = old.command;
     let other = new.command;

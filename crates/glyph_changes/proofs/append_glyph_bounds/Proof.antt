@@ -1,12 +1,11 @@
-use Rattle.glyph_changes.proofs.Places.{boxes-end, boxes-next, windowed-by}
-use Rattle.glyph_changes.specs.Runs.{Inside, windowed, boxesBy}
+-- `glyph_changes::append_glyph_bounds` meets its contract: what is left, appended to what is there, is the whole. Assumes nothing.
+use Prim.Native.Nat.{_+_, _≤_}
+use native.Mathlib.Omega.{arith}
+use borrow.Author.Needs.{needs}
 use Rattle.rect_list.proofs.Turns.{Going, going-start, going-add, going-end, going-length}
 use Rattle.strip_format.specs.Format.{glyphsFrom}
-use borrow.Author.Needs.{needs}
-use lib.ListN.{length}
-use Prim.Native.Nat.{_+_, _*_, _≤_, _<_}
-use mathlib.Core.Path.{_≡_}
-use native.Mathlib.Omega.{arith}
+use Rattle.glyph_changes.proofs.Places.{boxes-end, boxes-next, windowed-by}
+use Rattle.glyph_changes.specs.Runs.{Inside, windowed, boxesBy}
 use Rattle.glyph_changes.proofs.append_glyph_bounds.Statement.{statement}
 use Rattle.glyph_changes.proofs.append_glyph_bounds.Tie as tie
 

@@ -1,14 +1,14 @@
-use Rattle.glyph_changes.proofs.Places.{changed-new, changed-old, changed-same, changed-next, windowed-by, told-by, united-by}
-use Rattle.glyph_changes.specs.Runs.{Inside, glyphsOf, mostBoxes, windowed, changedBy}
+-- `glyph_changes::changed_glyph_bounds` meets its contract: place by place, and then what only one run has. Assumes nothing.
+use mathlib.Core.Path.{_∙_}
+use Prim.Native.Nat.{_+_, _≤_}
+use native.Mathlib.Omega.{arith}
+use borrow.Author.Needs.{needs}
+use Rattle.operand_equality.specs.Operands.{sameGlyph}
 use Rattle.rect_list.proofs.Turns.{Going, going-start, going-add, going-skip, going-last, going-length}
 use Rattle.rect_list.proofs.Appends.{added-length}
 use Rattle.strip_format.specs.Format.{glyphsFrom}
-use Rattle.operand_equality.specs.Operands.{sameGlyph}
-use borrow.Author.Needs.{needs}
-use lib.ListN.{length}
-use Prim.Native.Nat.{_+_, _*_, _≤_, _<_}
-use mathlib.Core.Path.{_≡_, _∙_}
-use native.Mathlib.Omega.{arith}
+use Rattle.glyph_changes.proofs.Places.{changed-new, changed-old, changed-same, changed-next, windowed-by, told-by, united-by}
+use Rattle.glyph_changes.specs.Runs.{Inside, glyphsOf, mostBoxes, windowed, changedBy}
 use Rattle.glyph_changes.proofs.changed_glyph_bounds.Statement.{statement}
 use Rattle.glyph_changes.proofs.changed_glyph_bounds.Tie as tie
 

@@ -1,12 +1,11 @@
-use Rattle.glyph_changes.proofs.Places.{equal-end, equal-short, equal-next, equal-stop, told-by}
-use Rattle.glyph_changes.specs.Runs.{Inside}
-use Rattle.strip_format.specs.Format.{glyphsFrom}
-use Rattle.operand_equality.specs.Operands.{equalGlyph, equalGlyphs}
-use borrow.Author.Needs.{needs}
-use lib.ListN.{length}
-use Prim.Native.Nat.{_+_, _*_, _≤_, _<_}
+-- `glyph_changes::equal_glyphs` meets its contract: what is left of both runs decides as the whole does. Assumes nothing.
 use mathlib.Core.Path.{_≡_, refl, sym, _∙_}
 use native.Mathlib.Omega.{arith}
+use borrow.Author.Needs.{needs}
+use Rattle.operand_equality.specs.Operands.{equalGlyph, equalGlyphs}
+use Rattle.strip_format.specs.Format.{glyphsFrom}
+use Rattle.glyph_changes.proofs.Places.{equal-end, equal-short, equal-next, equal-stop, told-by}
+use Rattle.glyph_changes.specs.Runs.{Inside}
 use Rattle.glyph_changes.proofs.equal_glyphs.Statement.{statement}
 use Rattle.glyph_changes.proofs.equal_glyphs.Tie as tie
 

@@ -1,5 +1,6 @@
-use Rattle.glyph_changes.specs.Runs.{windowed}
+-- `glyph_changes::window_bounds` meets its contract. Assumes nothing.
 use borrow.Author.Needs.{needs}
+use Rattle.glyph_changes.specs.Runs.{windowed}
 use Rattle.glyph_changes.proofs.window_bounds.Statement.{statement}
 use Rattle.glyph_changes.proofs.window_bounds.Tie as tie
 

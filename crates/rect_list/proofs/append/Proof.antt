@@ -1,3 +1,4 @@
+-- `rect_list::append` meets its contract, with room and without. Assumes nothing.
 use borrow.Author.Needs.{needs}
 use Rattle.rect_list.proofs.Appends.{put-room, put-full}
 use Rattle.rect_list.proofs.append.Statement.{statement}

@@ -1,8 +1,9 @@
-use Rattle.rect_list.proofs.Appends.{added-as, added-none}
-use Rattle.differences.specs.Differences.{boxesOf}
-use native.Mathlib.Omega.{arith}
+-- `rect_list::append_part` meets its contract: a box is appended, or none. Assumes nothing.
 use mathlib.Core.Path.{sym, ap}
+use native.Mathlib.Omega.{arith}
 use borrow.Author.Needs.{needs}
+use Rattle.differences.specs.Differences.{boxesOf}
+use Rattle.rect_list.proofs.Appends.{added-as, added-none}
 use Rattle.rect_list.proofs.append_part.Statement.{statement}
 use Rattle.rect_list.proofs.append_part.Tie as tie
 

@@ -1,5 +1,6 @@
-use Rattle.rect_list.proofs.Appends.{added-both}
+-- `rect_list::append_parts` meets its contract: four parts, one after the other. Assumes nothing.
 use borrow.Author.Needs.{needs}
+use Rattle.rect_list.proofs.Appends.{added-both}
 use Rattle.rect_list.proofs.append_parts.Statement.{statement}
 use Rattle.rect_list.proofs.append_parts.Tie as tie
 

@@ -1,11 +1,11 @@
+-- `runtime::append_bounds` meets its contract: what is left, appended to what is there, is the whole. Assumes nothing.
+use Prim.Native.Nat.{_+_, _*_, _≤_}
+use native.Mathlib.Omega.{arith}
+use lib.ListN.{length}
+use borrow.Author.Needs.{needs}
+use Rattle.rect_list.proofs.Turns.{Going, going-start, going-add, going-end, going-length}
 use Rattle.runtime.proofs.Changes.{boxes-end, boxes-next}
 use Rattle.runtime.specs.Placed.{boxesIn}
-use Rattle.rect_list.proofs.Turns.{Going, going-start, going-add, going-end, going-length}
-use borrow.Author.Needs.{needs}
-use lib.ListN.{length}
-use Prim.Native.Nat.{_+_, _*_, _≤_, _<_}
-use mathlib.Core.Path.{_≡_}
-use native.Mathlib.Omega.{arith}
 use Rattle.runtime.proofs.append_bounds.Statement.{statement}
 use Rattle.runtime.proofs.append_bounds.Tie as tie
 

@@ -1,7 +1,8 @@
-use Rattle.runtime.proofs.Pairs.{room-at, pair-of, changed-are}
-use Rattle.rect_list.proofs.Appends.{added-as}
+-- `runtime::changed_bounds` meets its contract: what is decoded stands for the commands of the list. Assumes nothing.
 use native.Mathlib.Omega.{arith}
 use borrow.Author.Needs.{needs}
+use Rattle.rect_list.proofs.Appends.{added-as}
+use Rattle.runtime.proofs.Pairs.{room-at, pair-of, changed-are}
 use Rattle.runtime.proofs.changed_bounds.Statement.{statement}
 use Rattle.runtime.proofs.changed_bounds.Tie as tie
 

@@ -1,7 +1,8 @@
-use Rattle.runtime.proofs.Pairs.{rooted, clip-rooms, case-equal, case-fills, case-runs, case-else}
-use Rattle.rect_list.proofs.Appends.{added-as, added-none}
+-- `runtime::changed_placed` meets its contract: four cases, by the first test that holds. Assumes nothing.
 use native.Mathlib.Omega.{arith}
 use borrow.Author.Needs.{needs}
+use Rattle.rect_list.proofs.Appends.{added-as, added-none}
+use Rattle.runtime.proofs.Pairs.{rooted, clip-rooms, case-equal, case-fills, case-runs, case-else}
 use Rattle.runtime.proofs.changed_placed.Statement.{statement}
 use Rattle.runtime.proofs.changed_placed.Tie as tie
 

@@ -1,13 +1,13 @@
-use Rattle.runtime.proofs.Changes.{diff-next, diff-new, diff-old}
-use Rattle.glyph_changes.specs.Runs.{mostBoxes}
+-- `runtime::diff_dirty` meets its contract: place by place, and then the boxes of what only one list has. Assumes nothing.
+use mathlib.Core.Path.{_∙_}
+use Prim.Native.Nat.{_+_, _*_, _≤_}
+use native.Mathlib.Omega.{arith}
+use Rattle.changes.specs.Changes.{diffDirty}
 use Rattle.rect_list.proofs.Turns.{Going, going-start, going-add, going-listed, going-length}
 use Rattle.rect_list.proofs.Appends.{added-length}
+use Rattle.glyph_changes.specs.Runs.{mostBoxes}
 use Rattle.stored_lists.specs.Stored.{commandsIn}
-use Rattle.changes.specs.Changes.{diffDirty}
-use borrow.Author.Needs.{needs}
-use Prim.Native.Nat.{_+_, _*_, _≤_, _<_}
-use mathlib.Core.Path.{_≡_, _∙_}
-use native.Mathlib.Omega.{arith}
+use Rattle.runtime.proofs.Changes.{diff-next, diff-new, diff-old}
 use Rattle.runtime.proofs.diff_dirty.Statement.{statement}
 use Rattle.runtime.proofs.diff_dirty.Tie as tie
 

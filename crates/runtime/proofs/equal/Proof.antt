@@ -1,5 +1,6 @@
-use Rattle.runtime.proofs.Pairs.{rooted, equal-on, equal-glyphs-off, equal-off}
+-- `runtime::equal` meets its contract: the first test that fails decides. Assumes nothing.
 use borrow.Author.Needs.{needs}
+use Rattle.runtime.proofs.Pairs.{rooted, equal-on, equal-glyphs-off, equal-off}
 use Rattle.runtime.proofs.equal.Statement.{statement}
 use Rattle.runtime.proofs.equal.Tie as tie
 

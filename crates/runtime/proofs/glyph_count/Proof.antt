@@ -1,6 +1,7 @@
-use Rattle.commands.specs.Bounds.{glyphCount}
+-- `runtime::glyph_count` meets its contract. Assumes nothing.
 use mathlib.Core.Path.{sym, ap}
 use borrow.Author.Needs.{needs}
+use Rattle.commands.specs.Bounds.{glyphCount}
 use Rattle.runtime.proofs.glyph_count.Statement.{statement}
 use Rattle.runtime.proofs.glyph_count.Tie as tie
 

@@ -1,5 +1,6 @@
-use Rattle.runtime.proofs.Pairs.{placed-is}
+-- `runtime::placed_at` meets its contract. Assumes nothing.
 use borrow.Author.Needs.{needs}
+use Rattle.runtime.proofs.Pairs.{placed-is}
 use Rattle.runtime.proofs.placed_at.Statement.{statement}
 use Rattle.runtime.proofs.placed_at.Tie as tie
 

@@ -1,9 +1,8 @@
-use Rattle.rect_list.proofs.Appends.{added-both, added-as}
-use Rattle.differences.specs.Differences.{rectSymmetricDifference}
+-- `runtime::rect_symmetric_difference` meets its contract: one difference, and then the other. Assumes nothing.
 use native.Mathlib.Omega.{arith}
-use mathlib.Core.List.{_++_}
-use mathlib.Core.Path.{ap, _∙_}
 use borrow.Author.Needs.{needs}
+use Rattle.differences.specs.Differences.{rectSymmetricDifference}
+use Rattle.rect_list.proofs.Appends.{added-both, added-as}
 use Rattle.runtime.proofs.rect_symmetric_difference.Statement.{statement}
 use Rattle.runtime.proofs.rect_symmetric_difference.Tie as tie
 

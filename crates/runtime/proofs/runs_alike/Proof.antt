@@ -1,6 +1,7 @@
-use Rattle.lists.proofs.Bools.{and-on, and-off}
+-- `runtime::runs_alike` meets its contract. Assumes nothing.
 use mathlib.Core.Path.{sym, _∙_}
 use borrow.Author.Needs.{needs}
+use Rattle.lists.proofs.Bools.{and-on, and-off}
 use Rattle.runtime.proofs.runs_alike.Statement.{statement}
 use Rattle.runtime.proofs.runs_alike.Tie as tie
 
