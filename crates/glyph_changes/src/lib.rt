@@ -1,0 +1,128 @@
+// Two runs of glyphs compared place by place: dew's `glyphs_eq` and `changed_glyph_bounds`. A glyph is decoded from
+// the strip where it is compared.
+ghost use mathlib.Core.Path.{_≡_};
+ghost use Prim.Native.Nat.{_+_, _*_, _≤_, _<_};
+ghost use lib.ListN.{length};
+ghost use Rattle.operand_equality.specs.Operands.{equalGlyphs};
+ghost use Rattle.strip_format.specs.Format.{glyphsFrom};
+ghost use Rattle.rect_list.specs.Rects.{Added};
+ghost use Rattle.glyph_changes.specs.Runs.{glyphsOf, Inside, mostBoxes, windowed, boxesBy, changedBy};
+use affine::Affine;
+use commands::Glyph;
+use geometry::Rect;
+
+// A run's glyphs: where the bytes of the first one begin, how many there are, and the transform and the clip
+// number that bring them to the window.
+pub struct Run {
+    pub glyphs: usize,
+    pub count: u32,
+    pub transform: Affine,
+    pub clip: u64,
+}
+
+// Whether two runs have equal glyphs, with equal boxes, and as many.
+pub fn equal_glyphs(s: &[u8], old: Run, new: Run) -> bool
+    requires { ⌜ Inside (now s) (old .glyphs) (old .count) × Inside (now s) (new .glyphs) (new .count) ⌝ }
+    ensures { λ r. ⌜ r ≡ equalGlyphs (glyphsOf (now (s .entry)) old) (glyphsOf (now (s .entry)) new) ⌝ }
+{
+    let mut p = old.glyphs;
+    let mut q = new.glyphs;
+    let mut i = old.count as usize;
+    let mut j = new.count as usize;
+    while 0 < i {
+        if j == 0 {
+            return false;
+        }
+        let g = strip_format::glyph_at(s, p);
+        let h = strip_format::glyph_at(s, q);
+        if operand_equality::equal_glyph(g, h) {
+            p += 45;
+            q += 45;
+            i -= 1;
+            j -= 1;
+        } else {
+            return false;
+        }
+    }
+    j == 0
+}
+
+fn window_bounds(boxes: &[f64], run: Run, glyph: Glyph) -> Rect
+    requires { ⌜ 8 * run .clip ≤ length (now boxes) ⌝ }
+    ensures { λ r. ⌜ r ≡ windowed (now (boxes .entry)) run glyph ⌝ }
+{
+    let number = run.clip;
+    let transform = run.transform;
+    let bounds = glyph.bounds;
+    display_list::window_glyph_bounds(boxes, number, transform, bounds)
+}
+
+// Appends the boxes of a run's glyphs, of which `count` are left from an offset on.
+fn append_glyph_bounds(
+    s: &[u8],
+    boxes: &[f64],
+    run: Run,
+    at: usize,
+    count: usize,
+    rects: &mut [f64],
+    n: usize,
+) -> usize
+    requires { ⌜ (8 * run .clip ≤ length (now boxes)) × Inside (now s) at count × (n + count < 9223372036854775808) ⌝ }
+    ensures { λ r. ⌜ Added count (now (rects .entry)) n (boxesBy (windowed (now (boxes .entry)) run) (glyphsFrom (now (s .entry)) at count)) (now (rects .exit)) r ⌝ }
+{
+    let mut m = n;
+    let mut p = at;
+    let mut i = count;
+    while 0 < i {
+        let g = strip_format::glyph_at(s, p);
+        let b = window_bounds(boxes, run, g);
+        m = rect_list::append(rects, m, b);
+        p += 45;
+        i -= 1;
+    }
+    m
+}
+
+// Appends the boxes of what changed from a run to another: at each common place whose glyphs are painted
+// differently the union of both boxes, and then the boxes of the glyphs that only one of them has.
+pub fn changed_glyph_bounds(
+    s: &[u8],
+    boxes: &[f64],
+    old: Run,
+    new: Run,
+    rects: &mut [f64],
+    n: usize,
+) -> usize
+    requires { ⌜ (8 * old .clip ≤ length (now boxes)) × (8 * new .clip ≤ length (now boxes)) × Inside (now s) (old .glyphs) (old .count) × Inside (now s) (new .glyphs) (new .count) × (n + mostBoxes < 9223372036854775808) ⌝ }
+    ensures { λ r. ⌜ Added mostBoxes (now (rects .entry)) n (changedBy (windowed (now (boxes .entry)) old) (windowed (now (boxes .entry)) new) (glyphsOf (now (s .entry)) old) (glyphsOf (now (s .entry)) new)) (now (rects .exit)) r ⌝ }
+{
+    let mut m = n;
+    let mut p = old.glyphs;
+    let mut q = new.glyphs;
+    let mut i = old.count as usize;
+    let mut j = new.count as usize;
+    while 0 < i {
+        if j == 0 {
+            return append_glyph_bounds(s, boxes, old, p, i, rects, m);
+        }
+        let p1 = p + 45;
+        let q1 = q + 45;
+        let g = strip_format::glyph_at(s, p);
+        let h = strip_format::glyph_at(s, q);
+        if operand_equality::glyph_eq(g, h) {
+            p = p1;
+            q = q1;
+            i -= 1;
+            j -= 1;
+        } else {
+            let b = window_bounds(boxes, old, g);
+            let c = window_bounds(boxes, new, h);
+            m = rect_list::append(rects, m, b.union(c));
+            p = p1;
+            q = q1;
+            i -= 1;
+            j -= 1;
+        }
+    }
+    append_glyph_bounds(s, boxes, new, q, j, rects, m)
+}

@@ -1,0 +1,52 @@
+-- Commands of a list in lent space, decoded to be compared.
+use mathlib.Core.Path.{_≡_}
+use mathlib.Core.List.{List, [], _∷_}
+use Prim.Native.Nat.{ℕ, zero, suc, _+_, _≤_, _<_}
+use lib.Ieee.{Float}
+use Rattle.geometry.specs.declared.Rect.{Rect}
+use Rattle.commands.specs.Bounds.{Command, transformOf, glyphCount, bounds}
+use Rattle.clips.specs.Chains.{chain, Clips}
+use Rattle.display_list.specs.Lists.{offsetAt, clipNumberAt, boxAt}
+use Rattle.strip_format.specs.Format.{commandAt}
+use Rattle.stored_lists.specs.Stored.{Stored}
+use Rattle.glyph_changes.specs.declared.Run.{Run}
+use Rattle.glyph_changes.specs.Runs.{glyphsOf, Inside}
+use Rattle.runtime.specs.declared.PlacedCommand.{PlacedCommand}
+
+-- two places of a list that the space holds
+pub record Both (i j : ℕ) (s : List ℕ) (bs : List Float) (ns is : List ℕ) (ibs : List Float) : Type 0 where
+  pub count : ℕ
+  pub stored : Stored count s bs ns is ibs
+  pub old : i < count
+  pub new : j < count
+
+-- ---- one command
+abbrev pub runAt : List ℕ → List ℕ → ℕ → Run
+runAt s is i = record { glyphs = offsetAt is i + 103; count = glyphCount (commandAt s (offsetAt is i)); transform = transformOf (commandAt s (offsetAt is i)); clip = clipNumberAt is i }
+
+-- what is decoded of the command at place i
+unfoldable pub placedAt : List ℕ → List ℕ → List Float → ℕ → PlacedCommand
+placedAt s is ibs i = record { command = commandAt s (offsetAt is i); run = runAt s is i; bounds = boxAt ibs i }
+
+-- the command that it stands for
+abbrev pub standsFor : List ℕ → List Float → List ℕ → PlacedCommand → Command
+standsFor s bs ns a = record { draw = a .command; glyphs = glyphsOf s (a .run); clips = chain bs ns (a .run .clip) }
+
+-- its parts are those of that command, where the space holds so many clips
+pub record Placed (used : ℕ) (s : List ℕ) (bs : List Float) (ns : List ℕ) (a : PlacedCommand) : Type 0 where
+  pub clip : a .run .clip ≤ used
+  pub glyphs : Inside s (a .run .glyphs) (a .run .count)
+  pub transform : a .run .transform ≡ transformOf (a .command)
+  pub box : a .bounds ≡ bounds (standsFor s bs ns a)
+
+-- ---- two commands
+pub record Pair (s : List ℕ) (bs : List Float) (ns : List ℕ) (a b : PlacedCommand) : Type 0 where
+  pub used : ℕ
+  pub clips : Clips used bs ns
+  pub old : Placed used s bs ns a
+  pub new : Placed used s bs ns b
+
+-- ---- the boxes of n commands from place i on
+unfoldable pub boxesIn : List Float → ℕ → ℕ → List Rect
+boxesIn ibs i zero = []
+boxesIn ibs i (suc n) = boxAt ibs i ∷ boxesIn ibs (suc i) n
