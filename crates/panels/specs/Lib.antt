@@ -1,2 +1,3 @@
 -- What a reader must believe of the two panels: document 01's section of that name, over any planner.
 pub mod Panels
+pub mod Entries
