@@ -1,0 +1,3 @@
+-- Laws of the definitions in specs/, for the crates above.
+pub mod Words
+pub mod Judged
