@@ -36,9 +36,9 @@ use Rattle.panels.proofs.Panels.{demand-3}
 use Rattle.panels.proofs.Strips.{OneStrip, strip-sound, ends-there, as-alone, one-strip, old-read, old-list}
 
 -- ---- the sizes
-size-some : (n : ℕ) → sizeFits n ≡ true → (0 < n) × (n ≤ 32768)
+size-within : (n : ℕ) → sizeFits n ≡ true → (0 < n) × (n ≤ 32768)
 unfolding sizeFits
-size-some n e = go (eqb n 0) refl e
+size-within n e = go (eqb n 0) refl e
   where
     go : (t : Bool) → eqb n 0 ≡ t → pick t false (leb n 32768) ≡ true → (0 < n) × (n ≤ 32768)
     go true z f = absurd (true≢false (sym f))
@@ -46,9 +46,9 @@ size-some n e = go (eqb n 0) refl e
 
 sizes-fit : (w h b : ℕ) → sizeFits w ≡ true → sizeFits h ≡ true → sizeFits b ≡ true → Sizes w h b
 sizes-fit w h b e f g =
-    let x = size-some w e in
-    let y = size-some h f in
-    let z = size-some b g in
+    let x = size-within w e in
+    let y = size-within h f in
+    let z = size-within b g in
     record { some-width = x .0; width-most = x .1; some-height = y .0; height-most = y .1; some-band = z .0; band-most = z .1 }
 
 module _ (header : List ℕ) (twelve : length header ≡ 12) where
