@@ -16,7 +16,6 @@ use Rattle.commands.specs.Bounds.{Command, transformOf, glyphCount, bounds, gly
 use Rattle.operand_equality.specs.Operands.{equalGlyphs, sameClips}
 use Rattle.equality.specs.Drawings.{sameDrawing, equal, fillsAlike, runsAlike, runsAlikeClipped}
 use Rattle.differences.specs.Differences.{rectSymmetricDifference}
-use Rattle.clips.specs.Chains.{Rooted}
 use Rattle.display_list.specs.Lists.{offsetAt, clipNumberAt, boxAt, windowGlyphBounds}
 use Rattle.display_list.proofs.Holding.{glyph-bounds-is}
 use Rattle.strip_format.specs.Format.{commandAt}
@@ -58,9 +57,6 @@ module _ (s : List ℕ) (bs : List Float) (ns : List ℕ) (a b : PlacedCommand) 
 
   abbrev d : Command
   d = standsFor s bs ns b
-
-  pub rooted : Rooted bs ns (a .run .clip) (b .run .clip)
-  rooted = record { used = w .used; chained = w .clips .chained; one = w .old .clip; other = w .new .clip }
 
   -- the clips' boxes are there
   pub clip-rooms : (8 * a .run .clip ≤ length bs) × (8 * b .run .clip ≤ length bs)
