@@ -2,7 +2,7 @@
 use native.Mathlib.Omega.{arith}
 use borrow.Author.Needs.{needs}
 use Rattle.rect_list.proofs.Appends.{added-as, added-none}
-use Rattle.runtime.proofs.Pairs.{clip-rooms, case-equal, case-fills, case-runs, case-else}
+use Rattle.runtime.proofs.Pairs.{clip-room, case-equal, case-fills, case-runs, case-else}
 use Rattle.runtime.proofs.changed_placed.Statement.{statement}
 use Rattle.runtime.proofs.changed_placed.Tie as tie
 
@@ -13,7 +13,7 @@ returns-2 : tie.Need-returns-2
 returns-2 c = added-as (case-fills _ _ _ _ _ (c .before .before .before .before .before .before .before .before .before .before .before .before .before .before .before .before .pre .0) (c .before .before .before .before .before .before .before .equal .ensures) (c .before .before .before .before .before .before .if1 .left) (c .before .before .before .before .before .fills-alike .ensures) (c .before .before .before .before .if2 .taken)) (omega arith) (c .before .before .rect-symmetric-difference .ensures)
 
 changed-glyph-bounds-requires : tie.Need-changed-glyph-bounds-requires
-changed-glyph-bounds-requires c κs = (clip-rooms _ _ _ _ _ (c .before .before .before .before .before .before .before .before .before .before .before .before .before .before .before .pre .0) .0, clip-rooms _ _ _ _ _ (c .before .before .before .before .before .before .before .before .before .before .before .before .before .before .before .pre .0) .1, c .before .before .before .before .before .before .before .before .before .before .before .before .before .before .before .pre .0 .old .glyphs, c .before .before .before .before .before .before .before .before .before .before .before .before .before .before .before .pre .0 .new .glyphs, omega (arith, c .before .before .before .before .before .before .before .before .before .before .before .before .before .before .before .pre .1))
+changed-glyph-bounds-requires c κs = (clip-room _ _ _ _ _ (c .before .before .before .before .before .before .before .before .before .before .before .before .before .before .before .pre .0 .clips) (c .before .before .before .before .before .before .before .before .before .before .before .before .before .before .before .pre .0 .old), clip-room _ _ _ _ _ (c .before .before .before .before .before .before .before .before .before .before .before .before .before .before .before .pre .0 .clips) (c .before .before .before .before .before .before .before .before .before .before .before .before .before .before .before .pre .0 .new), c .before .before .before .before .before .before .before .before .before .before .before .before .before .before .before .pre .0 .old .glyphs, c .before .before .before .before .before .before .before .before .before .before .before .before .before .before .before .pre .0 .new .glyphs, omega (arith, c .before .before .before .before .before .before .before .before .before .before .before .before .before .before .before .pre .1))
 
 returns-3 : tie.Need-returns-3
 returns-3 c = added-as (case-runs _ _ _ _ _ (c .before .before .before .before .before .before .before .before .before .before .before .before .before .before .before .before .before .before .pre .0) (c .before .before .before .before .before .before .before .before .before .equal .ensures) (c .before .before .before .before .before .before .before .before .if1 .left) (c .before .before .before .before .before .before .before .fills-alike .ensures) (c .before .before .before .before .before .before .if2 .left) (c .before .before .before .before .before .runs-alike .ensures) (c .before .before .before .before .if3 .taken)) (omega arith) (c .before .before .changed-glyph-bounds .ensures)
