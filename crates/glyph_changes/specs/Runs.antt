@@ -13,14 +13,15 @@ use Rattle.display_list.specs.Lists.{windowGlyphBounds}
 use Rattle.strip_format.specs.Format.{glyphsFrom}
 use Rattle.glyph_changes.specs.declared.Run.{Run}
 
+-- the glyphs of a run
 abbrev pub glyphsOf : List ℕ → Run → List Glyph
 glyphsOf s r = glyphsFrom s (r .glyphs) (r .count)
 
--- its glyphs, if it has any, stand whole in the strip
+-- n glyphs from an offset on, if there are any, stand whole in the strip
 abbrev pub Inside : List ℕ → ℕ → ℕ → Type 0
 Inside s at n = 0 < n → at + 45 * n ≤ length s
 
--- what changed from one to another is fewer boxes than this, since each count has 32 bits
+-- what changed from one run to another is fewer boxes than this, since a count has 32 bits; so is what changed between any two commands
 abbrev pub mostBoxes : ℕ
 mostBoxes = 8589934592
 
@@ -28,6 +29,7 @@ mostBoxes = 8589934592
 unfoldable pub windowed : List Float → Run → Glyph → Rect
 windowed bs r g = windowGlyphBounds bs (r .clip) (r .transform) (g .bounds)
 
+-- a box for each glyph
 unfoldable pub boxesBy : (Glyph → Rect) → List Glyph → List Rect
 boxesBy f [] = []
 boxesBy f (g ∷ gs) = f g ∷ boxesBy f gs

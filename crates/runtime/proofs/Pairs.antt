@@ -16,13 +16,13 @@ use Rattle.commands.specs.Bounds.{Command, transformOf, glyphCount, bounds, gly
 use Rattle.operand_equality.specs.Operands.{equalGlyphs, sameClips}
 use Rattle.equality.specs.Drawings.{sameDrawing, equal, fillsAlike, runsAlike, runsAlikeClipped}
 use Rattle.differences.specs.Differences.{rectSymmetricDifference}
-use Rattle.clips.specs.Chains.{Rooted}
+use Rattle.clips.specs.Chains.{Clips}
 use Rattle.display_list.specs.Lists.{offsetAt, clipNumberAt, boxAt, windowGlyphBounds}
 use Rattle.display_list.proofs.Holding.{glyph-bounds-is}
 use Rattle.strip_format.specs.Format.{commandAt}
 use Rattle.changes.specs.Changes.{changedBounds}
 use Rattle.stored_lists.specs.Stored.{Stored, commandIn}
-use Rattle.glyph_changes.specs.Runs.{windowed, changedBy}
+use Rattle.glyph_changes.specs.Runs.{glyphsOf, windowed, changedBy}
 use Rattle.runtime.specs.declared.PlacedCommand.{PlacedCommand}
 use Rattle.runtime.specs.Placed.{Both, placedAt, standsFor, Placed, Pair}
 use Rattle.runtime.proofs.Changes.{glyphs-are}
@@ -51,6 +51,15 @@ module _ (s : List ℕ) (bs : List Float) (ns is : List ℕ) (ibs : List Float) 
   unfolding placedAt
   changed-are i j p q = λ t. changedBounds (standsFor s bs ns (p t)) (standsFor s bs ns (q t))
 
+-- ---- one command: its clips' boxes are there, and a glyph's box by its run is the glyph's box by the command
+module _ (used : ℕ) (s : List ℕ) (bs : List Float) (ns : List ℕ) (a : PlacedCommand) (w : Clips used bs ns) (p : Placed used s bs ns a) where
+  pub clip-room : 8 * a .run .clip ≤ length bs
+  clip-room = omega (arith, p .clip, w .chained .boxes)
+
+  glyph-is : windowed bs (a .run) ≡ glyphBounds (standsFor s bs ns a)
+  unfolding windowed
+  glyph-is = λ t g. (ap (λ z. windowGlyphBounds bs (a .run .clip) z (g .bounds)) (p .transform) ∙ glyph-bounds-is used bs ns w (a .run .clip) (p .clip) (a .command) (glyphsOf s (a .run)) g) t
+
 -- ---- two commands
 module _ (s : List ℕ) (bs : List Float) (ns : List ℕ) (a b : PlacedCommand) (w : Pair s bs ns a b) where
   abbrev c : Command
@@ -58,13 +67,6 @@ module _ (s : List ℕ) (bs : List Float) (ns : List ℕ) (a b : PlacedCommand) 
 
   abbrev d : Command
   d = standsFor s bs ns b
-
-  pub rooted : Rooted bs ns (a .run .clip) (b .run .clip)
-  rooted = record { used = w .used; chained = w .clips .chained; one = w .old .clip; other = w .new .clip }
-
-  -- the clips' boxes are there
-  pub clip-rooms : (8 * a .run .clip ≤ length bs) × (8 * b .run .clip ≤ length bs)
-  clip-rooms = (omega (arith, w .old .clip, w .clips .chained .boxes), omega (arith, w .new .clip, w .clips .chained .boxes))
 
   -- equal, by the first test that fails
   pub equal-on : {r t u : Bool} → t ≡ sameDrawing (a .command) (b .command) → t ≡ true → u ≡ equalGlyphs (c .glyphs) (d .glyphs) → u ≡ true → r ≡ sameClips (c .clips) (d .clips) → r ≡ equal c d
@@ -78,15 +80,6 @@ module _ (s : List ℕ) (bs : List Float) (ns : List ℕ) (a b : PlacedCommand) 
   pub equal-off : {t : Bool} → t ≡ sameDrawing (a .command) (b .command) → t ≡ false → false ≡ equal c d
   unfolding equal
   equal-off p e = and-off _ _ (sym (and-off _ _ (sym p ∙ e)))
-
-  -- a glyph's box by its run is its box by its command
-  glyph-old : windowed bs (a .run) ≡ glyphBounds c
-  unfolding windowed
-  glyph-old = λ t g. (ap (λ z. windowGlyphBounds bs (a .run .clip) z (g .bounds)) (w .old .transform) ∙ glyph-bounds-is (w .used) bs ns (w .clips) (a .run .clip) (w .old .clip) (a .command) (c .glyphs) g) t
-
-  glyph-new : windowed bs (b .run) ≡ glyphBounds d
-  unfolding windowed
-  glyph-new = λ t g. (ap (λ z. windowGlyphBounds bs (b .run .clip) z (g .bounds)) (w .new .transform) ∙ glyph-bounds-is (w .used) bs ns (w .clips) (b .run .clip) (w .new .clip) (b .command) (d .glyphs) g) t
 
   -- what changed, by the first test that holds
   module _ {t : Bool} (p : t ≡ equal c d) where
@@ -103,7 +96,7 @@ module _ (s : List ℕ) (bs : List Float) (ns : List ℕ) (a b : PlacedCommand) 
         pub case-runs : v ≡ true → changedBy (windowed bs (a .run)) (windowed bs (b .run)) (c .glyphs) (d .glyphs) ≡ changedBounds c d
         unfolding changedBounds runsAlikeClipped
         case-runs g =
-            (λ k. changedBy (glyph-old k) (glyph-new k) (c .glyphs) (d .glyphs))
+            (λ k. changedBy (glyph-is (w .used) s bs ns a (w .clips) (w .old) k) (glyph-is (w .used) s bs ns b (w .clips) (w .new) k) (c .glyphs) (d .glyphs))
             ∙ glyphs-are c d (c .glyphs) (d .glyphs)
             ∙ sym (pick-false _ _ _ (sym p ∙ off) ∙ pick-false _ _ _ (sym q ∙ off2) ∙ pick-true _ _ _ (sym r ∙ g))
 

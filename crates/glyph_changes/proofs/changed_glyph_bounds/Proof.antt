@@ -30,7 +30,7 @@ loop-holds : tie.Need-loop-holds Inv-loop μ-loop
 loop-holds c = (c .before .before .before .before .before .pre .2, c .before .before .before .before .before .pre .3, search needs, going-start)
 
 append-glyph-bounds-requires : tie.Need-append-glyph-bounds-requires Inv-loop μ-loop
-append-glyph-bounds-requires c κs = (c .before .before .before .before .before .before .before .before .before .pre .0, c .before .before .before .loop .inv .0, omega (arith, c .before .before .before .loop .inv .2, c .before .before .before .before .before .before .before .before .before .pre .4))
+append-glyph-bounds-requires c κs = (omega (arith, c .before .before .before .before .before .before .before .before .before .pre .0, c .before .before .before .before .before .before .before .before .before .pre .1), c .before .before .before .loop .inv .0, omega (arith, c .before .before .before .loop .inv .2, c .before .before .before .before .before .before .before .before .before .pre .4))
 
 same-length : tie.Need-same-length Inv-loop μ-loop
 same-length c = added-length _ _ _ _ _ _ (c .before .before .append-glyph-bounds .ensures) ∙ going-length (c .before .before .before .before .before .before .loop .inv .3)
@@ -63,10 +63,10 @@ loop-again : tie.Need-loop-again Inv-loop μ-loop
 loop-again c = (λ h. omega (arith, c .before .before .before .before .before .before .loop .inv .0 (c .before .before .before .before .before .loop-test .taken), c .before .before .before .before .before .loop-test .taken), λ h. let k = c .before .before .before .before .before .before .loop .inv .1 (omega (arith, c .before .before .before .before .if1 .left)) in omega (arith, k, c .before .before .before .before .if1 .left), omega (arith, c .before .before .before .before .before .before .loop .inv .2), going-skip (c .before .before .before .before .before .before .loop .inv .3) (changed-same _ _ _ _ _ _ _ (c .before .before .before .before .before .loop-test .taken) (c .before .before .before .before .if1 .left) (told-by sameGlyph (c .before .glyph-eq .ensures) (c .before .before .before .glyph-at .ensures) (c .before .before .glyph-at2 .ensures) (c .if2 .taken))))
 
 window-bounds-requires : tie.Need-window-bounds-requires Inv-loop μ-loop
-window-bounds-requires c κs = c .before .before .before .before .before .before .before .before .before .before .before .before .pre .0
+window-bounds-requires c κs = omega (arith, c .before .before .before .before .before .before .before .before .before .before .before .before .pre .0, c .before .before .before .before .before .before .before .before .before .before .before .before .pre .1)
 
 window-bounds-requires-2 : tie.Need-window-bounds-requires-2 Inv-loop μ-loop
-window-bounds-requires-2 c κs = c .before .before .before .before .before .before .before .before .before .before .before .before .before .pre .1
+window-bounds-requires-2 c κs = omega (arith, c .before .before .before .before .before .before .before .before .before .before .before .before .before .pre .0, c .before .before .before .before .before .before .before .before .before .before .before .before .before .pre .1)
 
 append-requires : tie.Need-append-requires Inv-loop μ-loop
 append-requires c κs = omega (arith, c .before .before .before .before .before .before .before .before .before .before .loop .inv .2, c .before .before .before .before .before .before .before .before .before .loop-test .taken, c .before .before .before .before .before .before .before .before .before .before .before .before .before .before .before .before .pre .4)
@@ -84,7 +84,7 @@ loop-again-2 : tie.Need-loop-again-2 Inv-loop μ-loop
 loop-again-2 c = (λ h. omega (arith, c .before .before .before .before .before .before .before .before .before .before .before .before .before .loop .inv .0 (c .before .before .before .before .before .before .before .before .before .before .before .before .loop-test .taken), c .before .before .before .before .before .before .before .before .before .before .before .before .loop-test .taken), λ h. let k = c .before .before .before .before .before .before .before .before .before .before .before .before .before .loop .inv .1 (omega (arith, c .before .before .before .before .before .before .before .before .before .before .before .if1 .left)) in omega (arith, k, c .before .before .before .before .before .before .before .before .before .before .before .if1 .left), omega (arith, c .before .before .append .ensures .most, c .before .before .before .before .before .before .before .before .before .before .before .before .before .loop .inv .2, c .before .before .before .before .before .before .before .before .before .before .before .before .loop-test .taken), going-add (c .before .before .before .before .before .before .before .before .before .before .before .before .before .loop .inv .3) (changed-next _ _ _ _ _ _ _ _ (c .before .before .before .before .before .before .before .before .before .before .before .before .loop-test .taken) (c .before .before .before .before .before .before .before .before .before .before .before .if1 .left) (told-by sameGlyph (c .before .before .before .before .before .before .before .before .glyph-eq .ensures) (c .before .before .before .before .before .before .before .before .before .before .glyph-at .ensures) (c .before .before .before .before .before .before .before .before .before .glyph-at2 .ensures) (c .before .before .before .before .before .before .before .if2 .left)) (united-by (c .before .before .before .union .ensures) (windowed-by _ _ (c .before .before .before .before .before .before .window-bounds .ensures) (c .before .before .before .before .before .before .before .before .before .before .glyph-at .ensures)) (windowed-by _ _ (c .before .before .before .before .before .window-bounds2 .ensures) (c .before .before .before .before .before .before .before .before .before .glyph-at2 .ensures)))) (c .before .before .append .ensures))
 
 append-glyph-bounds-requires-2 : tie.Need-append-glyph-bounds-requires-2 Inv-loop μ-loop
-append-glyph-bounds-requires-2 c κs = (c .before .before .before .before .before .before .before .before .pre .1, c .before .before .loop .inv .1, omega (arith, c .before .before .loop .inv .2, c .before .before .before .before .before .before .before .before .pre .4))
+append-glyph-bounds-requires-2 c κs = (omega (arith, c .before .before .before .before .before .before .before .before .pre .0, c .before .before .before .before .before .before .before .before .pre .1), c .before .before .loop .inv .1, omega (arith, c .before .before .loop .inv .2, c .before .before .before .before .before .before .before .before .pre .4))
 
 same-length-2 : tie.Need-same-length-2 Inv-loop μ-loop
 same-length-2 c = added-length _ _ _ _ _ _ (c .before .before .append-glyph-bounds2 .ensures) ∙ going-length (c .before .before .before .before .before .loop .inv .3)

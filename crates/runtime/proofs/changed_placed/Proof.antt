@@ -2,7 +2,7 @@
 use native.Mathlib.Omega.{arith}
 use borrow.Author.Needs.{needs}
 use Rattle.rect_list.proofs.Appends.{added-as, added-none}
-use Rattle.runtime.proofs.Pairs.{rooted, clip-rooms, case-equal, case-fills, case-runs, case-else}
+use Rattle.runtime.proofs.Pairs.{clip-room, case-equal, case-fills, case-runs, case-else}
 use Rattle.runtime.proofs.changed_placed.Statement.{statement}
 use Rattle.runtime.proofs.changed_placed.Tie as tie
 
@@ -12,11 +12,8 @@ returns c = added-as (case-equal _ _ _ _ _ (c .before .before .before .before .b
 returns-2 : tie.Need-returns-2
 returns-2 c = added-as (case-fills _ _ _ _ _ (c .before .before .before .before .before .before .before .before .before .before .before .before .before .before .before .before .pre .0) (c .before .before .before .before .before .before .before .equal .ensures) (c .before .before .before .before .before .before .if1 .left) (c .before .before .before .before .before .fills-alike .ensures) (c .before .before .before .before .if2 .taken)) (omega arith) (c .before .before .rect-symmetric-difference .ensures)
 
-runs-alike-requires : tie.Need-runs-alike-requires
-runs-alike-requires c κs = rooted _ _ _ _ _ (c .before .before .before .before .before .before .before .before .before .before .before .before .pre .0)
-
 changed-glyph-bounds-requires : tie.Need-changed-glyph-bounds-requires
-changed-glyph-bounds-requires c κs = (clip-rooms _ _ _ _ _ (c .before .before .before .before .before .before .before .before .before .before .before .before .before .before .before .pre .0) .0, clip-rooms _ _ _ _ _ (c .before .before .before .before .before .before .before .before .before .before .before .before .before .before .before .pre .0) .1, c .before .before .before .before .before .before .before .before .before .before .before .before .before .before .before .pre .0 .old .glyphs, c .before .before .before .before .before .before .before .before .before .before .before .before .before .before .before .pre .0 .new .glyphs, omega (arith, c .before .before .before .before .before .before .before .before .before .before .before .before .before .before .before .pre .1))
+changed-glyph-bounds-requires c κs = (clip-room _ _ _ _ _ (c .before .before .before .before .before .before .before .before .before .before .before .before .before .before .before .pre .0 .clips) (c .before .before .before .before .before .before .before .before .before .before .before .before .before .before .before .pre .0 .old), clip-room _ _ _ _ _ (c .before .before .before .before .before .before .before .before .before .before .before .before .before .before .before .pre .0 .clips) (c .before .before .before .before .before .before .before .before .before .before .before .before .before .before .before .pre .0 .new), c .before .before .before .before .before .before .before .before .before .before .before .before .before .before .before .pre .0 .old .glyphs, c .before .before .before .before .before .before .before .before .before .before .before .before .before .before .before .pre .0 .new .glyphs, omega (arith, c .before .before .before .before .before .before .before .before .before .before .before .before .before .before .before .pre .1))
 
 returns-3 : tie.Need-returns-3
 returns-3 c = added-as (case-runs _ _ _ _ _ (c .before .before .before .before .before .before .before .before .before .before .before .before .before .before .before .before .before .before .pre .0) (c .before .before .before .before .before .before .before .before .before .equal .ensures) (c .before .before .before .before .before .before .before .before .if1 .left) (c .before .before .before .before .before .before .before .fills-alike .ensures) (c .before .before .before .before .before .before .if2 .left) (c .before .before .before .before .before .runs-alike .ensures) (c .before .before .before .before .if3 .taken)) (omega arith) (c .before .before .changed-glyph-bounds .ensures)
@@ -28,6 +25,6 @@ pub changed-placed-spec : {M : Type 1} → statement M
 changed-placed-spec =
     tie.close
     (tie.spec
-    (λ c κs. search needs) returns (λ c κs. search needs) (λ c κs. search needs) (λ c. search needs) returns-2 runs-alike-requires
+    (λ c κs. search needs) returns (λ c κs. search needs) (λ c κs. search needs) (λ c. search needs) returns-2 (λ c κs. search needs)
     changed-glyph-bounds-requires (λ c. search needs) returns-3 (λ c κs. search needs) (λ c κs. search needs) (λ c. search needs)
     returns-4)

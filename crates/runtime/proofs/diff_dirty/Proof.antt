@@ -23,7 +23,7 @@ loop-holds : tie.Need-loop-holds Inv-loop μ-loop
 loop-holds c = (omega arith, omega arith, omega arith, going-start)
 
 append-bounds-requires : tie.Need-append-bounds-requires Inv-loop μ-loop
-append-bounds-requires c κs = (omega (arith, c .before .before .before .loop .inv .0, c .before .before .before .before .before .before .before .before .before .before .pre .0 .boxes), omega (arith, c .before .before .before .loop .inv .0, c .before .before .before .loop .inv .2, c .before .before .before .before .before .before .before .before .before .before .pre .1))
+append-bounds-requires c κs = (omega (arith, c .before .before .before .loop .inv .0, c .before .before .before .loop .inv .1, c .before .before .before .before .before .before .before .before .before .before .pre .0 .boxes), omega (arith, c .before .before .before .loop .inv .0, c .before .before .before .loop .inv .1, c .before .before .before .loop .inv .2, c .before .before .before .before .before .before .before .before .before .before .pre .1, c .before .before .before .before .before .before .before .before .before .before .pre .2))
 
 same-length : tie.Need-same-length Inv-loop μ-loop
 same-length c = added-length _ _ _ _ _ _ (c .before .before .append-bounds .ensures) ∙ going-length (c .before .before .before .before .before .before .loop .inv .3)
@@ -53,7 +53,7 @@ loop-again : tie.Need-loop-again Inv-loop μ-loop
 loop-again c = (omega (arith, c .before .before .before .before .before .before .loop .inv .0, c .before .before .before .before .before .loop-test .taken), omega (arith, c .before .before .before .before .before .before .loop .inv .1, c .before .before .before .before .if1 .left), omega (arith, c .before .before .before .before .before .before .loop .inv .2, c .before .before .before .before .before .loop-test .taken, c .before .before .changed-bounds .ensures .most), going-add (c .before .before .before .before .before .before .loop .inv .3) (diff-next _ _ _ _ _ _ _ _ (c .before .before .before .before .before .loop-test .taken) (c .before .before .before .before .if1 .left)) (c .before .before .changed-bounds .ensures))
 
 append-bounds-requires-2 : tie.Need-append-bounds-requires-2 Inv-loop μ-loop
-append-bounds-requires-2 c κs = (omega (arith, c .before .before .loop .inv .1, c .before .before .before .before .before .before .before .before .before .pre .0 .boxes), omega (arith, c .before .before .loop .inv .1, c .before .before .loop .inv .2, c .before .before .before .before .before .before .before .before .before .pre .1, c .before .before .before .before .before .before .before .before .before .pre .2))
+append-bounds-requires-2 c κs = (omega (arith, c .before .before .loop .inv .0, c .before .before .loop .inv .1, c .before .before .before .before .before .before .before .before .before .pre .0 .boxes), omega (arith, c .before .before .loop .inv .0, c .before .before .loop .inv .1, c .before .before .loop .inv .2, c .before .before .before .before .before .before .before .before .before .pre .1, c .before .before .before .before .before .before .before .before .before .pre .2))
 
 same-length-2 : tie.Need-same-length-2 Inv-loop μ-loop
 same-length-2 c = added-length _ _ _ _ _ _ (c .before .before .append-bounds2 .ensures) ∙ going-length (c .before .before .before .before .before .loop .inv .3)

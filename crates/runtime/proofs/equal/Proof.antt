@@ -1,14 +1,8 @@
 -- `runtime::equal` meets its contract: the first test that fails decides. Assumes nothing.
 use borrow.Author.Needs.{needs}
-use Rattle.runtime.proofs.Pairs.{rooted, equal-on, equal-glyphs-off, equal-off}
+use Rattle.runtime.proofs.Pairs.{equal-on, equal-glyphs-off, equal-off}
 use Rattle.runtime.proofs.equal.Statement.{statement}
 use Rattle.runtime.proofs.equal.Tie as tie
-
-equal-glyphs-requires : tie.Need-equal-glyphs-requires
-equal-glyphs-requires c κs = (c .before .before .before .before .before .before .before .pre .old .glyphs, c .before .before .before .before .before .before .before .pre .new .glyphs)
-
-same-clips-requires : tie.Need-same-clips-requires
-same-clips-requires c κs = rooted _ _ _ _ _ (c .before .before .before .before .before .before .before .before .before .pre)
 
 returns : tie.Need-returns
 returns c = equal-on _ _ _ _ _ (c .before .before .before .before .before .before .before .before .before .before .pre) (c .before .before .before .before .same-drawing .ensures) (c .before .before .before .if1 .taken) (c .before .before .equal-glyphs .ensures) (c .before .if2 .taken) (c .same-clips .ensures)
@@ -23,4 +17,4 @@ pub equal-spec : {M : Type 1} → statement M
 equal-spec =
     tie.close
     (tie.spec
-    (λ c κs. search needs) equal-glyphs-requires same-clips-requires returns returns-2 returns-3)
+    (λ c κs. search needs) (λ c κs. search needs) (λ c κs. search needs) returns returns-2 returns-3)
