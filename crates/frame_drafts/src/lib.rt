@@ -155,7 +155,7 @@ fn draft_next(
                 item_boxes,
                 glyph_items,
             ) {
-                let n = runtime::diff_dirty(
+                let changed = runtime::diff_dirty(
                     s,
                     boxes,
                     below,
@@ -173,7 +173,7 @@ fn draft_next(
                     old_commands as usize,
                     new_commands as usize,
                     rects,
-                    n,
+                    changed,
                     rect_room,
                     region_room,
                     word_room,

@@ -1,1 +1,2 @@
 -- Laws of the definitions in specs/, for the crates above.
+pub mod Examples
