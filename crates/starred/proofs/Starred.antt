@@ -4,14 +4,15 @@ use lib.Ieee.{lt, neg, div, ofInt, ofBits, toBits}
 use Rattle.floats.specs.Whole.{floor, ceil}
 use Rattle.floats.specs.Next.{nextDown}
 use Rattle.device.specs.Region.{between}
-use Rattle.display_list.proofs.Examples.{cropped, stroke-box}
+use Rattle.changes.proofs.Examples.{cropped-fill}
+use Rattle.display_list.proofs.Examples.{stroke-box}
 use Rattle.schedule_laws.proofs.Examples.{touching-joined, apart-kept, higher-first}
 use Rattle.starred.specs.Starred.{Starred}
 
 pub starred : Starred
 unfolding floor ceil nextDown between lt neg div ofInt ofBits toBits
 starred = record {
-  cropped = cropped;
+  cropped = cropped-fill;
   rounded-outward = refl;
   no-width = refl;
   touching-joined = touching-joined;

@@ -15,7 +15,7 @@ use Rattle.commands.specs.declared.Cap.the-variants as C
 use Rattle.commands.specs.declared.DrawCommand.{DrawCommand}
 use Rattle.commands.specs.declared.DrawCommand.the-variants.{FillPath, StrokePath}
 use Rattle.commands.specs.Bounds.{Command, bounds}
-use Rattle.differences.specs.Differences.{rectSymmetricDifference}
+use Rattle.changes.specs.Changes.{changedBounds}
 use Rattle.scheduler.specs.Schedule.{schedule}
 
 infixl 70 _÷_
@@ -66,7 +66,7 @@ above16 = ofBits binary64 (toBits binary64 (whole 16) + 1)
 
 pub record Starred : Type 0 where
   -- "FILL box 0 0 10 10 to 0 0 6 10 by clip: only 6 0 10 10"
-  pub cropped : rectSymmetricDifference (bounds (filled [])) (bounds (filled (edges 0 0 6 10 ∷ []))) ≡ edges 6 0 10 10 ∷ []
+  pub cropped : changedBounds (filled []) (filled (edges 0 0 6 10 ∷ [])) ≡ edges 6 0 10 10 ∷ []
   -- "(-1.5, 2.25, 3.5, 4) on 8 by 8: 0 2 4 2"
   pub rounded-outward : fromLogical (box (neg (3 ÷ 2)) (9 ÷ 4) (7 ÷ 2) (whole 4)) 8 8 ≡ Region (region 0 2 4 2)
   -- "(3, 3, 3, 5): nothing"
