@@ -9,6 +9,7 @@ pub mod edits;
 pub mod frames;
 pub mod limits;
 pub mod pages;
+pub mod table;
 pub mod tiny;
 
 use crate::calls::{Call, Request};
@@ -30,6 +31,8 @@ pub enum Kind {
     Damage,
     /// One past each limit, and at it.
     Limits,
+    /// A table of districts and its next release.
+    Table,
     /// A few bytes, meant to be refused for every reason.
     Tiny,
     /// First frames.
@@ -41,12 +44,13 @@ pub enum Kind {
 }
 
 impl Kind {
-    pub const ALL: [(&'static str, Self); 9] = [
+    pub const ALL: [(&'static str, Self); 10] = [
         ("document", Self::Document),
         ("pages", Self::Pages),
         ("edges", Self::Edges),
         ("damage", Self::Damage),
         ("limits", Self::Limits),
+        ("table", Self::Table),
         ("tiny", Self::Tiny),
         ("first", Self::First),
         ("frames", Self::Frames),
@@ -80,6 +84,7 @@ pub fn input(kind: Kind, seed: u64) -> Option<Vec<u8>> {
         Kind::Edges => Some(edges::input(&mut random)),
         Kind::Damage => Some(damage::input(&mut random)),
         Kind::Limits => Some(limits::input(seed, &mut random)),
+        Kind::Table => Some(table::input(&mut random)),
         Kind::Tiny => Some(tiny::input(&mut random)),
         Kind::First | Kind::Frames | Kind::Candidates => None,
     }
@@ -100,7 +105,7 @@ pub fn calls(kind: Kind, seed: u64, planner: Planner) -> Vec<Call> {
             vec![words(&mut Random::new(kind.name(), seed), planner)]
         }
         Kind::Document => vec![enough(document::input(seed), planner)],
-        Kind::Pages | Kind::Edges | Kind::Damage | Kind::Limits | Kind::Tiny => {
+        Kind::Pages | Kind::Edges | Kind::Damage | Kind::Limits | Kind::Table | Kind::Tiny => {
             let input = input(kind, seed).expect("these kinds are the program's");
             vec![lent(Entry::Later, input, planner, &mut random)]
         }

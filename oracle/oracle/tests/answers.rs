@@ -6,6 +6,7 @@ use std::path::Path;
 
 use oracle::batch;
 use oracle::calls::Call;
+use oracle::generate::{self, Kind};
 use oracle::planners::document;
 use oracle::print::plan_form;
 use oracle::program;
@@ -42,6 +43,29 @@ fn the_entries_give_the_stored_answers() {
         let call = Call::read(call).expect("a call");
         assert_eq!(call.answer(&document), answer);
     }
+}
+
+#[test]
+fn the_replay_program_is_held_to_the_stored_calls() {
+    let crates = Path::new(env!("CARGO_MANIFEST_DIR")).join("../../crates/replay");
+    for (name, file) in [("calls.in", "stdin"), ("calls.out", "stdout")] {
+        let path = crates.join(file);
+        let held = fs::read(&path).unwrap_or_else(|error| panic!("{}: {error}", path.display()));
+        assert!(held == stored(name), "{file} is stale: copy answers/{name}");
+    }
+}
+
+#[test]
+fn the_bundled_example_is_planned_as_it_says() {
+    let examples = Path::new(env!("CARGO_MANIFEST_DIR")).join("../../examples");
+    let read = |name: &str| {
+        let path = examples.join(name);
+        fs::read(&path).unwrap_or_else(|error| panic!("{}: {error}", path.display()))
+    };
+    let input = generate::input(Kind::Table, 0).expect("tables are the program's");
+    assert!(read("districts.bin") == input, "districts.bin is stale");
+    let printed = plan_form(&program::answer(&document, &input));
+    assert_eq!(read("districts.plan"), printed.into_bytes());
 }
 
 #[test]
