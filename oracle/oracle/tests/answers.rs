@@ -47,9 +47,9 @@ fn the_entries_give_the_stored_answers() {
 
 #[test]
 fn the_replay_program_is_held_to_the_stored_calls() {
-    let crates = Path::new(env!("CARGO_MANIFEST_DIR")).join("../../crates/replay");
+    let replay = Path::new(env!("CARGO_MANIFEST_DIR")).join("../replay/replay");
     for (name, file) in [("calls.in", "stdin"), ("calls.out", "stdout")] {
-        let path = crates.join(file);
+        let path = replay.join(file);
         let held = fs::read(&path).unwrap_or_else(|error| panic!("{}: {error}", path.display()));
         assert!(held == stored(name), "{file} is stale: copy answers/{name}");
     }
