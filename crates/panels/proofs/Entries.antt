@@ -30,9 +30,9 @@ use Rattle.plans.specs.declared.Plan.the-variants.{Planned, Refused as TurnedAw
 use Rattle.plans.specs.Drafts.{Outcome, turned, drafted, onFirst, onBoth, onHeader, firstOutcome, nextOutcome}
 use Rattle.plans.specs.Space.{Slices, Lent, lentOf}
 use Rattle.plans.specs.Answers.{answerOf, accepted, published, indexWords as wordsOf}
-use Rattle.panels.specs.Entries.{callOf, regionsOf, entries, Demand}
+use Rattle.panels.specs.Entries.{callOf, regionsOf, entries, EntriesAgree}
 use Rattle.panels.proofs.Plans.{boxesSince, GoodLast, Call, Plans}
-use Rattle.panels.proofs.Panels.{demand-3}
+use Rattle.panels.proofs.Panels.{plans-agree}
 use Rattle.panels.proofs.Strips.{OneStrip, strip-sound, ends-there, as-alone, one-strip, old-read, old-list}
 
 -- ---- the sizes
@@ -164,5 +164,5 @@ module _ (header : List ℕ) (twelve : length header ≡ 12) where
         );
   }
 
-pub panels-agree : Demand
-panels-agree header twelve = demand-3 (u32At header 0) (u32At header 4) (u32At header 8) (entries header) (OneStrip header) (entries-plan header twelve)
+pub panels-agree : EntriesAgree
+panels-agree header twelve = plans-agree (u32At header 0) (u32At header 4) (u32At header 8) (entries header) (OneStrip header) (entries-plan header twelve)

@@ -12,7 +12,7 @@ use Rattle.scheduler.specs.Schedule.{Sizes, schedule}
 use Rattle.painting.proofs.Alike.{Sound}
 use Rattle.panels.specs.Panels.{Planner, PanelsAgree}
 use Rattle.panels.proofs.Plans.{boxesSince, Plans}
-use Rattle.panels.proofs.Panels.{demand-3}
+use Rattle.panels.proofs.Panels.{plans-agree}
 
 record Listed : Type 0 where
   commands : List Command
@@ -40,4 +40,4 @@ module _ (w h b : ℕ) where
   }
 
   listing-agrees : Sizes w h b → PanelsAgree w h b listing
-  listing-agrees z = demand-3 w h b listing (λ s. Unit {0}) (listing-plans z)
+  listing-agrees z = plans-agree w h b listing (λ s. Unit {0}) (listing-plans z)

@@ -150,6 +150,6 @@ module _ (w h b : ℕ) (P : Planner) (good : P .Strip → Type 0) (L : Plans w h
           rec next (λ px. shows px ∙ repainted (s .last) f (s .panelA) (s .panelB) call (ord .0 e) m same sh px) (L .one-strip (s .last) (f .strip) (f .space) call) (shows, m, L .sound (s .last) (f .strip) (f .space) call) u o
 
 -- Demand 3. The glyph rule is not used: a glyph is painted by its key, which has no box, and rule (iv) is asked of every glyph that occurs.
-pub demand-3 : (w h b : ℕ) (P : Planner) (good : P .Strip → Type 0) → Plans w h b P good → PanelsAgree w h b P
-demand-3 w h b P good L frames C background paint mark absent R glyphs ord =
+pub plans-agree : (w h b : ℕ) (P : Planner) (good : P .Strip → Type 0) → Plans w h b P good → PanelsAgree w h b P
+plans-agree w h b P good L frames C background paint mark absent R glyphs ord =
     panels-from w h b P good L background absent R (start P w h b background paint absent) frames (λ px. refl) tt tt (λ c u. u) ord

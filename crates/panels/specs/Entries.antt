@@ -37,5 +37,5 @@ entries header =
 
 -- Demand 3: under every header, "width, height, band height, u32 each". The proof does not use the glyph rule, for a glyph is painted by its key, which
 -- has no box; nor, for the colours, that no two regions overlap: each leaves on its pixels what panel A shows.
-abbrev pub Demand : Type 1
-Demand = (header : List ℕ) → length header ≡ 12 → PanelsAgree (u32At header 0) (u32At header 4) (u32At header 8) (entries header)
+abbrev pub EntriesAgree : Type 1
+EntriesAgree = (header : List ℕ) → length header ≡ 12 → PanelsAgree (u32At header 0) (u32At header 4) (u32At header 8) (entries header)
