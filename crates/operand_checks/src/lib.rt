@@ -1,14 +1,14 @@
-// Whether the operands of a command pass, once all their bytes are there: codes first, then every float, used or not.
+// Whether the operands of a command pass: codes first, then every float, used or not. Any offset will do; past the end every
+// byte counts as 0.
 ghost use mathlib.Core.Path.{_≡_};
-ghost use Prim.Native.Nat.{_+_, _*_, _≤_};
+ghost use Prim.Native.Nat.{_+_, _*_, _<_, _^_};
 ghost use lib.ListN.{length};
 ghost use Rattle.lists.specs.Pick.{pick};
-ghost use Rattle.strip_format.specs.Format.{lengthOf};
 ghost use Rattle.operand_checks.specs.Operands as Operands;
 
 // Whether the n f64 from an offset on are finite.
 fn finite_from(s: &[u8], at: usize, n: usize) -> bool
-    requires { ⌜ at + 8 * n ≤ length (now s) ⌝ }
+    requires { ⌜ at + 8 * n < 2 ^ 64 ⌝ }
     ensures { λ r. ⌜ r ≡ Operands.finiteFrom (now (s .entry)) at n ⌝ }
 {
     let mut p = at;
@@ -25,14 +25,13 @@ fn finite_from(s: &[u8], at: usize, n: usize) -> bool
 }
 
 fn finite_f32(s: &[u8], at: usize) -> bool
-    requires { ⌜ at + 4 ≤ length (now s) ⌝ }
     ensures { λ r. ⌜ r ≡ Operands.finiteF32 (now (s .entry)) at ⌝ }
 {
     little_endian::finite32(little_endian::u32_at(s, at) as u32)
 }
 
 fn finite_stroke(s: &[u8], at: usize) -> bool
-    requires { ⌜ at + 124 ≤ length (now s) ⌝ }
+    requires { ⌜ at + 124 < 2 ^ 64 ⌝ }
     ensures { λ r. ⌜ r ≡ Operands.finiteStroke (now (s .entry)) at ⌝ }
 {
     if finite_from(s, at + 9, 10) {
@@ -47,7 +46,7 @@ fn finite_stroke(s: &[u8], at: usize) -> bool
 }
 
 fn finite_run(s: &[u8], at: usize) -> bool
-    requires { ⌜ at + 103 ≤ length (now s) ⌝ }
+    requires { ⌜ at + 103 < 2 ^ 64 ⌝ }
     ensures { λ r. ⌜ r ≡ Operands.finiteRun (now (s .entry)) at ⌝ }
 {
     if finite_f32(s, at + 9) {
@@ -62,7 +61,7 @@ fn finite_run(s: &[u8], at: usize) -> bool
 }
 
 fn finite_glyph(s: &[u8], at: usize) -> bool
-    requires { ⌜ at + 45 ≤ length (now s) ⌝ }
+    requires { ⌜ at + 45 < 2 ^ 64 ⌝ }
     ensures { λ r. ⌜ r ≡ Operands.finiteGlyph (now (s .entry)) at ⌝ }
 {
     if finite_f32(s, at + 5) {
@@ -92,16 +91,18 @@ fn floats_number(pass: bool) -> u32
     if pass { 0 } else { 4 }
 }
 
-// The number that the operands of the command at an offset get, and 0 where they pass.
-pub fn operands(s: &[u8], at: usize, b: u8) -> u32
-    requires { ⌜ at + lengthOf b ≤ length (now s) ⌝ }
+fn operands_inside(s: &[u8], at: usize, b: u8) -> u32
+    requires { ⌜ at < length (now s) ⌝ }
     ensures { λ r. ⌜ r ≡ Operands.operandsAt (now (s .entry)) at b ⌝ }
 {
     match b {
         1 => floats_number(finite_from(s, at + 1, 4)),
         3 => floats_number(finite_from(s, at + 9, 10)),
         4 => {
-            if codes_fit(s[at + 105], s[at + 114], s[at + 115]) {
+            let join = little_endian::byte_at(s, at + 105);
+            let start = little_endian::byte_at(s, at + 114);
+            let end = little_endian::byte_at(s, at + 115);
+            if codes_fit(join, start, end) {
                 floats_number(finite_stroke(s, at))
             } else {
                 3
@@ -112,4 +113,14 @@ pub fn operands(s: &[u8], at: usize, b: u8) -> u32
         7 => floats_number(finite_from(s, at + 25, 10)),
         _ => 0,
     }
+}
+
+// The number that the operands of the command at an offset get, and 0 where they pass.
+pub fn operands(s: &[u8], at: usize, b: u8) -> u32
+    ensures { λ r. ⌜ r ≡ Operands.operandsAt (now (s .entry)) at b ⌝ }
+{
+    if s.len() <= at {
+        return 0;
+    }
+    operands_inside(s, at, b)
 }

@@ -1,3 +1,4 @@
 -- Laws of the format, for the crates above.
 pub mod Lengths
 pub mod Commands
+pub mod Past

@@ -1,5 +1,6 @@
 // The strip's bytes: how long each command is, and the drawing command or glyph that stands at
-// an offset. What is compared later is decoded here again, so it is what was read.
+// an offset, whatever the offset: past the end every byte counts as 0. What is compared later is decoded here again, so it
+// is what was read.
 ghost use mathlib.Core.Path.{_≡_};
 ghost use Prim.Native.Nat.{_+_, _≤_};
 ghost use lib.ListN.{length};
@@ -28,9 +29,16 @@ pub fn length_of(b: u8) -> usize
 }
 
 pub fn rect_at(s: &[u8], at: usize) -> Rect
-    requires { ⌜ at + 32 ≤ length (now s) ⌝ }
     ensures { λ r. ⌜ r ≡ Format.rectAt (now (s .entry)) at ⌝ }
 {
+    if s.len() <= at {
+        return Rect {
+            x0: 0.0,
+            y0: 0.0,
+            x1: 0.0,
+            y1: 0.0,
+        };
+    }
     Rect {
         x0: little_endian::f64_at(s, at),
         y0: little_endian::f64_at(s, at + 8),
@@ -40,9 +48,18 @@ pub fn rect_at(s: &[u8], at: usize) -> Rect
 }
 
 pub fn affine_at(s: &[u8], at: usize) -> Affine
-    requires { ⌜ at + 48 ≤ length (now s) ⌝ }
     ensures { λ r. ⌜ r ≡ Format.affineAt (now (s .entry)) at ⌝ }
 {
+    if s.len() <= at {
+        return Affine {
+            a: 0.0,
+            b: 0.0,
+            c: 0.0,
+            d: 0.0,
+            e: 0.0,
+            f: 0.0,
+        };
+    }
     Affine {
         a: little_endian::f64_at(s, at),
         b: little_endian::f64_at(s, at + 8),
@@ -184,9 +201,16 @@ pub fn command_at(s: &[u8], at: usize) -> DrawCommand
 }
 
 pub fn glyph_at(s: &[u8], at: usize) -> Glyph
-    requires { ⌜ at + 45 ≤ length (now s) ⌝ }
     ensures { λ r. ⌜ r ≡ Format.glyphAt (now (s .entry)) at ⌝ }
 {
+    if s.len() <= at {
+        return Glyph {
+            id: 0,
+            x: 0.0,
+            y: 0.0,
+            bounds: rect_at(s, at),
+        };
+    }
     Glyph {
         id: little_endian::u32_at(s, at + 1) as u32,
         x: little_endian::f32_at(s, at + 5),

@@ -1,16 +1,23 @@
+use native.Mathlib.Omega.{arith}
 use Rattle.little_endian.specs.Words.{u32At}
+use mathlib.Core.Path.{sym}
+use Rattle.little_endian.proofs.Past.{u32-past}
 use borrow.Author.Needs.{needs}
 use Rattle.little_endian.proofs.u32_at.Statement.{statement}
 use Rattle.little_endian.proofs.u32_at.Tie as tie
 
 returns : tie.Need-returns
+returns c = (sym (u32-past _ _ (omega arith)), omega arith)
+
+returns-3 : tie.Need-returns-3
 unfolding u32At
-returns c = search needs
+returns-3 c = search needs
 
 pub u32-at-spec : {M : Type 1} → statement M
 u32-at-spec =
     tie.close
     (tie.spec
-    (λ c. search needs) (λ c κs. search needs) (λ c. search needs) (λ c. search needs) (λ c κs. search needs) (λ c. search needs)
-    (λ c. search needs) (λ c. search needs) (λ c. search needs) (λ c κs. search needs) (λ c. search needs) (λ c. search needs)
-    (λ c. search needs) (λ c. search needs) (λ c κs. search needs) (λ c. search needs) (λ c. search needs) returns)
+    returns (λ c. search needs) (λ c κs. search needs) (λ c. search needs) (λ c. search needs) (λ c κs. search needs)
+    (λ c. search needs) (λ c. search needs) (λ c κs. search needs) (λ c. search needs) (λ c. search needs) (λ c. search needs)
+    (λ c. search needs) (λ c κs. search needs) (λ c. search needs) (λ c. search needs) (λ c. search needs) (λ c. search needs)
+    (λ c κs. search needs) (λ c. search needs) (λ c. search needs) returns-3)

@@ -1,14 +1,20 @@
+use native.Mathlib.Omega.{arith}
 use Rattle.little_endian.specs.Words.{u64At}
+use mathlib.Core.Path.{sym}
+use Rattle.little_endian.proofs.Past.{u64-past}
 use borrow.Author.Needs.{needs}
 use Rattle.little_endian.proofs.u64_at.Statement.{statement}
 use Rattle.little_endian.proofs.u64_at.Tie as tie
 
 returns : tie.Need-returns
+returns c = sym (u64-past _ _ (omega arith))
+
+returns-2 : tie.Need-returns-2
 unfolding u64At
-returns c = search needs
+returns-2 c = search needs
 
 pub u64-at-spec : {M : Type 1} → statement M
 u64-at-spec =
     tie.close
     (tie.spec
-    (λ c κs. search needs) (λ c. search needs) (λ c κs. search needs) (λ c. search needs) (λ c. search needs) returns)
+    returns (λ c κs. search needs) (λ c. search needs) (λ c κs. search needs) (λ c. search needs) (λ c. search needs) returns-2)

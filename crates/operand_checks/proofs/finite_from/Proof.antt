@@ -1,7 +1,6 @@
 -- `operands::finite_from` meets its contract: what is left to test decides as the whole does. Assumes nothing.
 use mathlib.Core.Path.{_≡_, sym, _∙_}
-use Prim.Native.Nat.{_≤_, _+_, _*_}
-use lib.ListN.{length}
+use Prim.Native.Nat.{_<_, _+_, _*_, _^_}
 use borrow.Author.Needs.{needs}
 use Rattle.operand_checks.specs.Operands.{finiteFrom}
 use Rattle.operand_checks.proofs.Finite.{finite-none, finite-more, finite-stop, of-word}
@@ -9,7 +8,7 @@ use Rattle.operand_checks.proofs.finite_from.Statement.{statement}
 use Rattle.operand_checks.proofs.finite_from.Tie as tie
 
 abbrev Inv-loop : tie.InvT-loop
-Inv-loop s at n p₀ left₀ p left = (p + 8 * left ≤ length s) × (finiteFrom s p left ≡ finiteFrom s at n)
+Inv-loop s at n p₀ left₀ p left = (p + 8 * left < 2 ^ 64) × (finiteFrom s p left ≡ finiteFrom s at n)
 
 abbrev μ-loop : tie.MeasureT-loop
 μ-loop s at n p₀ left₀ p left = left

@@ -1,0 +1,2 @@
+-- Laws of bytes and numbers past the end, for the crates above.
+pub mod Past
