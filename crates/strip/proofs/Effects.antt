@@ -14,7 +14,6 @@ use Rattle.affine.specs.declared.Transformed.{Transformed}
 use Rattle.affine.specs.declared.Transformed.the-variants.{Finite, NotFinite}
 use Rattle.affine.specs.Affines.{tryTransform}
 use Rattle.commands.specs.Bounds.{transformOf, tryWith}
-use Rattle.commands.specs.declared.DrawCommand.{DrawCommand}
 use Rattle.strip_format.specs.Format.{lengthOf, rectAt, commandAt}
 use Rattle.operand_checks.specs.Operands.{operandsAt}
 use Rattle.strip.specs.declared.Cursor.{Cursor}
@@ -89,9 +88,9 @@ module _ (s : List ℕ) (st : Cursor) where
   last-more box u e h = ap (λ (v : Rect). Next (pastGlyph v)) e ∙ rw (ne-eqb (st .due) 1 h) refl
 
   -- the run's affine, as the code reads it, and what it makes of a box
-  module _ (d : DrawCommand) (m : Affine) (b : Rect) (r : Transformed) (p : d ≡ commandAt s (st .run)) (q : m ≡ transformOf d) (e : r ≡ tryTransform m b) where
+  module _ (m : Affine) (b : Rect) (r : Transformed) (q : m ≡ transformOf (commandAt s (st .run))) (e : r ≡ tryTransform m b) where
     answer : tryTransform (transformOf (commandAt s (st .run))) b ≡ r
-    answer = ap (λ (c : DrawCommand). tryTransform (transformOf c) b) (sym p) ∙ ap (λ (a : Affine). tryTransform a b) (sym q) ∙ sym e
+    answer = ap (λ (a : Affine). tryTransform a b) (sym q) ∙ sym e
 
     last-by : (box : Rect) → b ≡ unite st box → st .due ≡ 1 → lastStep s st box ≡ onBox (st .at) r (λ whole. Draw (pastGlyph b) (st .run) whole)
     unfolding lastStep

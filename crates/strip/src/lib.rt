@@ -100,8 +100,7 @@ impl Cursor {
             return Step::Refused(6, at);
         }
         let united = self.united;
-        let command = strip_format::command_at(s, at);
-        match command.try_bounds(united) {
+        match command_bounds::try_bounds_at(s, at, united) {
             Transformed::Finite(bounds) => {
                 self.at = at + len;
                 self.commands = self.commands + 1;
@@ -162,8 +161,7 @@ impl Cursor {
         self.due = due - 1;
         self.united = united;
         if due == 1 {
-            let command = strip_format::command_at(s, run);
-            let transform = command.transform();
+            let transform = command_bounds::transform_at(s, run);
             match transform.try_transform(united) {
                 Transformed::Finite(whole) => Step::Draw(self, run, whole),
                 Transformed::NotFinite => Step::Refused(9, at),
@@ -183,8 +181,7 @@ impl Cursor {
             return Step::Refused(6, at);
         }
         let bounds = strip_format::rect_at(s, at + 13);
-        let command = strip_format::command_at(s, run);
-        let transform = command.transform();
+        let transform = command_bounds::transform_at(s, run);
         match transform.try_transform(bounds) {
             Transformed::Finite(_) => self.last(s, bounds),
             Transformed::NotFinite => Step::Refused(9, at),

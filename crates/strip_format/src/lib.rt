@@ -90,16 +90,25 @@ fn cap_of(code: u8) -> Cap
     }
 }
 
-fn stroke_at(s: &[u8], at: usize) -> Stroke
-    requires { ⌜ at + 27 ≤ length (now s) ⌝ }
+pub fn stroke_at(s: &[u8], at: usize) -> Stroke
     ensures { λ r. ⌜ r ≡ Format.strokeAt (now (s .entry)) at ⌝ }
 {
+    if s.len() <= at {
+        return Stroke {
+            width: 0.0,
+            join: Join::Bevel,
+            miter_limit: 0.0,
+            start_cap: Cap::Butt,
+            end_cap: Cap::Butt,
+            dash: 0,
+        };
+    }
     Stroke {
         width: little_endian::f64_at(s, at),
-        join: join_of(s[at + 8]),
+        join: join_of(little_endian::byte_at(s, at + 8)),
         miter_limit: little_endian::f64_at(s, at + 9),
-        start_cap: cap_of(s[at + 17]),
-        end_cap: cap_of(s[at + 18]),
+        start_cap: cap_of(little_endian::byte_at(s, at + 17)),
+        end_cap: cap_of(little_endian::byte_at(s, at + 18)),
         dash: little_endian::u64_at(s, at + 19),
     }
 }
