@@ -73,8 +73,8 @@ enum sovdringa_answer {
  * of it does.
  *   rects          4 doubles a rectangle: x0, y0, x1, y1
  *   regions        4 words a region: x, y, width, height; in order of y, then x
- *   words          the band index, for sovdringa_candidates: a word a band row and one more, then an entry for each row that
- *                  a command touches
+ *   words          the band index, for sovdringa_candidates: a word for each band row and one more, then an entry for each
+ *                  command in each row that it may touch
  *
  * Scratch. All zeros when a call returns, with a plan or without. Clips, commands and glyphs are counted over all strips of
  * the input (two, for sovdringa_plan_next).

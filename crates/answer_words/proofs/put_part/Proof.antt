@@ -1,5 +1,4 @@
 -- `put_part` meets its contract, case by case. Assumes nothing.
-use denote.Ref.{now}
 use borrow.Author.Needs.{needs}
 use Rattle.candidates.specs.Table.{numberOf}
 use Rattle.answer_words.specs.Words.{partWords}

@@ -1,5 +1,4 @@
 -- `put_plan` meets its contract, case by case. Assumes nothing.
-use denote.Ref.{now}
 use borrow.Author.Needs.{needs}
 use Rattle.plans.specs.Answers.{numberOf}
 use Rattle.answer_words.specs.Words.{answerWords}

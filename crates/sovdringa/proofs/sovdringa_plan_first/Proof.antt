@@ -1,6 +1,5 @@
 -- `sovdringa_plan_first` meets its contract: it hands on what the entry answers. Assumes nothing.
 use denote.Ref.{now}
-use borrow.Author.Needs.{needs}
 use Rattle.plans.specs.Drafts.{firstOutcome}
 use Rattle.sovdringa.proofs.Answered.{answered}
 use Rattle.sovdringa.proofs.sovdringa_plan_first.Statement.{statement}

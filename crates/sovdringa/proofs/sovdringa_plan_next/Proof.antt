@@ -1,6 +1,5 @@
 -- `sovdringa_plan_next` meets its contract: it hands on what the entry answers. Assumes nothing.
 use denote.Ref.{now}
-use borrow.Author.Needs.{needs}
 use Rattle.plans.specs.Drafts.{nextOutcome}
 use Rattle.sovdringa.proofs.Answered.{answered}
 use Rattle.sovdringa.proofs.sovdringa_plan_next.Statement.{statement}
