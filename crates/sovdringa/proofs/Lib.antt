@@ -1,0 +1,2 @@
+-- What the proofs of both entries use.
+mod Answered
