@@ -1,5 +1,6 @@
-// A strip held together with the offset at which it is read, above the cursor's functions. Each of these functions is proved
-// by hand, so they are few, and the one at the end has plain parameters: its callers are proved as any function.
+// A strip held together with the offset at which it is read, above the cursor's functions. The borrow checker covers no function
+// over a struct that holds a reference, so each is proved by hand: they are few, and hold no branch and no loop. The one at the
+// end has plain parameters, so that its callers are proved as any function is.
 ghost use mathlib.Core.Path.{_≡_};
 ghost use Rattle.strip.specs.Reading as Reading;
 use crate::Answer;
