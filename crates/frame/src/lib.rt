@@ -73,8 +73,7 @@ pub fn first_frame(s: &[u8]) -> First
 fn new_strip(s: &[u8], old: Cursor) -> Pair
     ensures { λ r. ⌜ r ≡ Frame.thenNew (now (s .entry)) old (readStrip (now (s .entry)) (old .at)) ⌝ }
 {
-    let from = old.at;
-    match strip::read_strip(s, from) {
+    match strip::read_behind(s, old) {
         Answer::Read(new) => {
             let end = new.at;
             if end < s.len() {

@@ -9,6 +9,11 @@ ghost use Rattle.strip.specs.Reading as Reading;
 use affine::Transformed;
 use geometry::Rect;
 
+mod reader;
+
+pub use reader::Reader;
+pub use reader::read_behind;
+
 // Where reading stands: the offset, how many clips are open, what has been counted, how many glyphs are due of the run at
 // `run`, and the union of its glyph boxes so far.
 pub struct Cursor {
