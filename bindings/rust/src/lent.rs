@@ -1,0 +1,80 @@
+//! Lent space as plain slices.
+
+use crate::plan::Counts;
+use crate::raw::{self, Answer};
+use crate::refusal::{Reason, Refusal};
+
+/// The slices of one call, for callers who keep their own memory, as arrays or parts of a pool. [`Space`](crate::Space) lends
+/// vectors of its own.
+///
+/// What they have room for, in items, is said by document 01's rule "where these and the output differ, the least is the
+/// space lent":
+///
+/// | Item | Room |
+/// |---|---|
+/// | drawing commands of both strips | the lesser of `items` / 2 and `item_boxes` / 4 |
+/// | glyphs of both strips | `glyph_items` |
+/// | clips of both strips | the lesser of `boxes` / 8 and `below` |
+/// | rectangles | the least of `rects` / 4, `draft_rects` / 4, `work` and `spare` |
+/// | regions | the lesser of `regions` / 4 and `draft_regions` / 4 |
+/// | index words | the lesser of `words` and `draft_words` |
+///
+/// After every call the scratch is zero, and after a refusal the output is as it was.
+#[derive(Debug)]
+pub struct Lent<'a> {
+    /// Output: x0, y0, x1, y1 of each rectangle.
+    pub rects: &'a mut [f64],
+    /// Output: x, y, width, height of each region.
+    pub regions: &'a mut [u32],
+    /// Output: the band index.
+    pub words: &'a mut [u32],
+    /// Scratch: two boxes a clip.
+    pub boxes: &'a mut [f64],
+    /// Scratch: a word a clip.
+    pub below: &'a mut [u64],
+    /// Scratch: two words a drawing command.
+    pub items: &'a mut [u64],
+    /// Scratch: a box a drawing command.
+    pub item_boxes: &'a mut [f64],
+    /// Scratch: a word a glyph.
+    pub glyph_items: &'a mut [u64],
+    /// Scratch: as `rects`.
+    pub draft_rects: &'a mut [f64],
+    /// Scratch: a word a rectangle.
+    pub work: &'a mut [u64],
+    /// Scratch: a word a rectangle.
+    pub spare: &'a mut [u64],
+    /// Scratch: as `regions`.
+    pub draft_regions: &'a mut [u32],
+    /// Scratch: as `words`.
+    pub draft_words: &'a mut [u32],
+}
+
+impl Lent<'_> {
+    /// Plans a first frame: a header and one strip. The plan stands at the front of `rects`, `regions` and `words`.
+    pub fn plan_first(&mut self, input: &[u8]) -> Result<Counts, Refusal> {
+        counts(raw::plan_first(input, self))
+    }
+
+    /// Plans a frame after another: a header, the last accepted strip and the new one.
+    pub fn plan_next(&mut self, input: &[u8]) -> Result<Counts, Refusal> {
+        counts(raw::plan_next(input, self))
+    }
+}
+
+fn counts(answer: Answer) -> Result<Counts, Refusal> {
+    let [number, position, rectangles, regions, index_words, pixels, commands] = answer;
+    match number {
+        0 => Ok(Counts {
+            rectangles: rectangles as usize,
+            regions: regions as usize,
+            index_words: index_words as usize,
+            pixels,
+            commands,
+        }),
+        _ => Err(Refusal {
+            reason: Reason::numbered(number),
+            position: position as usize,
+        }),
+    }
+}
