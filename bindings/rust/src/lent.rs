@@ -52,11 +52,19 @@ pub struct Lent<'a> {
 
 impl Lent<'_> {
     /// Plans a first frame: a header and one strip. The plan stands at the front of `rects`, `regions` and `words`.
+    ///
+    /// # Errors
+    ///
+    /// Refused where the bytes are no such input or there is too little space.
     pub fn plan_first(&mut self, input: &[u8]) -> Result<Counts, Refusal> {
         counts(raw::plan_first(input, self))
     }
 
     /// Plans a frame after another: a header, the last accepted strip and the new one.
+    ///
+    /// # Errors
+    ///
+    /// Refused where the bytes are no such input or there is too little space.
     pub fn plan_next(&mut self, input: &[u8]) -> Result<Counts, Refusal> {
         counts(raw::plan_next(input, self))
     }

@@ -77,6 +77,7 @@ impl<'space> Plan<'space> {
     }
 
     /// What changed, in dew's order.
+    #[must_use]
     pub fn rectangles(&self) -> impl ExactSizeIterator<Item = Rect> + 'space {
         self.rects
             .chunks_exact(4)
@@ -84,6 +85,7 @@ impl<'space> Plan<'space> {
     }
 
     /// The regions to paint anew, from the top, in each band from the left. No two overlap, and none crosses a band edge.
+    #[must_use]
     pub fn regions(&self) -> impl ExactSizeIterator<Item = Region> + 'space {
         self.regions.chunks_exact(4).map(|words| Region {
             x: words[0],
