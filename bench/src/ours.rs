@@ -1,7 +1,7 @@
 //! The proved library, with space lent that just fits.
 
 use oracle::command::{Draw, Op};
-use sovdringa::{plan_next, Counts, Limits, Plan, Space};
+use sovdringa::{plan_next, plan_next_growing, Counts, Limits, Plan, Space};
 
 use crate::pages::Turn;
 
@@ -14,21 +14,9 @@ pub struct Ours {
 impl Ours {
     pub fn new(turn: &Turn) -> Self {
         let input = turn.input();
-        let mut limits = Limits {
-            regions: 4_096,
-            index_words: 16_384,
-            ..Limits::for_input(&input)
-        };
-        let counts = loop {
-            match plan_next(&mut Space::new(limits), &input) {
-                Ok(plan) => break plan.counts(),
-                Err(refusal) => {
-                    limits = limits
-                        .grown(&input)
-                        .unwrap_or_else(|| panic!("a page of the benchmark: {refusal}"));
-                }
-            }
-        };
+        let counts = plan_next_growing(&mut Space::default(), &input)
+            .expect("a page of the benchmark has a plan")
+            .counts();
         let [commands, glyphs, clips] = items(turn);
         let space = Space::new(Limits {
             commands,

@@ -44,6 +44,8 @@ pub mod strip;
 
 pub use geometry::{Affine, Header, Rect, Region};
 pub use lent::Lent;
-pub use plan::{candidates, plan_first, plan_next, Counts, Plan};
+pub use plan::{
+    candidates, plan_first, plan_first_growing, plan_next, plan_next_growing, Counts, Plan,
+};
 pub use refusal::{Reason, Refusal};
 pub use space::{Limits, Space};

@@ -52,6 +52,49 @@ pub fn plan_next<'space>(space: &'space mut Space, input: &[u8]) -> Result<Plan<
     Ok(Plan::new(space, input, counts))
 }
 
+/// As [`plan_first`], in space that grows where it is too small.
+///
+/// # Errors
+///
+/// Refused where the bytes are no such input.
+pub fn plan_first_growing<'space>(
+    space: &'space mut Space,
+    input: &[u8],
+) -> Result<Plan<'space>, Refusal> {
+    let counts = growing(space, input, |space| space.lend().plan_first(input))?;
+    Ok(Plan::new(space, input, counts))
+}
+
+/// As [`plan_next`], in space that grows where it is too small.
+///
+/// # Errors
+///
+/// Refused where the bytes are no such input.
+pub fn plan_next_growing<'space>(
+    space: &'space mut Space,
+    input: &[u8],
+) -> Result<Plan<'space>, Refusal> {
+    let counts = growing(space, input, |space| space.lend().plan_next(input))?;
+    Ok(Plan::new(space, input, counts))
+}
+
+fn growing(
+    space: &mut Space,
+    input: &[u8],
+    call: impl Fn(&mut Space) -> Result<Counts, Refusal>,
+) -> Result<Counts, Refusal> {
+    loop {
+        let answer = call(space);
+        match answer {
+            Err(refusal) if refusal.reason == Reason::Space => {
+                let grown = space.limits().grown(input).ok_or(refusal)?;
+                *space = Space::new(grown);
+            }
+            _ => return answer,
+        }
+    }
+}
+
 impl<'space> Plan<'space> {
     fn new(space: &'space Space, input: &[u8], counts: Counts) -> Self {
         let (rects, regions, words) = space.output();

@@ -4,7 +4,7 @@ use crate::geometry::Header;
 use crate::lent::Lent;
 
 /// How many items a call may need at most. One of each kind too few, and the call is refused with number 10.
-#[derive(Debug, Clone, Copy, PartialEq, Eq, Hash)]
+#[derive(Debug, Clone, Copy, PartialEq, Eq, Hash, Default)]
 pub struct Limits {
     /// Drawing commands of both strips.
     pub commands: usize,
@@ -56,7 +56,8 @@ impl Limits {
     /// Enough of everything for this input: it is never refused with number 10.
     ///
     /// A rectangle may have a region, and a command an index word, in every band. On a high screen of low bands that is far
-    /// more than a plan has: 4,096 commands and 32,768 bands are 512 MB of words. [`Limits::grown`] begins with little.
+    /// more than a plan has: 4,096 commands and 32,768 bands are 512 MB of words. [`plan_next_growing`](crate::plan_next_growing)
+    /// begins with what there is.
     #[must_use]
     pub fn for_input(input: &[u8]) -> Self {
         let mut limits = Self::for_len(input.len());
@@ -95,7 +96,7 @@ impl Limits {
 /// Space to lend, kept from call to call.
 ///
 /// Every call clears all of the scratch, used or not: space far beyond what pages need costs time.
-#[derive(Debug, Clone)]
+#[derive(Debug, Clone, Default)]
 pub struct Space {
     limits: Limits,
     rects: Vec<f64>,

@@ -4,7 +4,10 @@ mod common;
 
 use common::{example, page, Slices, HEADER, SHAPE};
 use sovdringa::strip::{first_input, next_input, Shape, Strip};
-use sovdringa::{plan_first, plan_next, Affine, Counts, Header, Limits, Reason, Rect, Space};
+use sovdringa::{
+    plan_first, plan_first_growing, plan_next, plan_next_growing, Affine, Counts, Header, Limits,
+    Reason, Rect, Space,
+};
 
 /// A page turn that needs an item of each kind, with the items that it needs.
 fn turn() -> (Vec<u8>, Counts, Limits) {
@@ -215,21 +218,19 @@ fn space_grows_until_a_plan_fits() {
         band_height: 1,
     };
     let input = next_input(tall, &old, &new);
-    let mut limits = Limits {
-        regions: 1,
-        index_words: 1,
-        ..Limits::for_len(0)
-    };
-    let mut tries = 0;
-    let counts = loop {
-        match plan_next(&mut Space::new(limits), &input) {
-            Ok(plan) => break plan.counts(),
-            Err(refusal) => assert_eq!(refusal.reason, Reason::Space),
-        }
-        limits = limits.grown(&input).expect("the most is enough");
-        tries += 1;
-    };
-    assert!(counts.regions > 1 && (1..20).contains(&tries));
+    let needed = plan_next(&mut Space::for_input(&input), &input)
+        .expect("a plan")
+        .counts();
+    let mut space = Space::default();
+    let grown = plan_next_growing(&mut space, &input).expect("space that grows is enough");
+    assert_eq!(grown.counts(), needed);
+    let limits = space.limits();
+    assert!(limits.regions < 2 * needed.regions && limits.index_words < 2 * needed.index_words);
+    assert!(plan_next(&mut space, &input).is_ok());
+    let first = first_input(tall, &new);
+    assert!(plan_first_growing(&mut Space::default(), &first).is_ok());
+    let refusal = plan_first_growing(&mut Space::default(), &input).expect_err("two strips");
+    assert_eq!(refusal.reason, Reason::BytesFollow);
     let most = Limits::for_input(&input);
     assert_eq!(most.grown(&input), None);
 }
