@@ -1,9 +1,13 @@
-//! Writes strips: pages as the planner reads them.
+//! Writes strips, pages as the planner reads them, and reads them back.
 
 use std::error::Error;
 use std::fmt;
 
 use crate::geometry::{Affine, Header, Rect};
+
+mod reader;
+
+pub use reader::read;
 
 /// A page's commands as bytes. Paths, brushes, fonts, dashes and scenes are content numbers of the caller's choice: equal
 /// numbers have to mean equal things.
@@ -105,6 +109,18 @@ pub struct Scene {
     pub bounds: Rect,
 }
 
+/// One command of a strip, as [`read`](crate::strip::read) finds it.
+#[derive(Debug, Clone, PartialEq)]
+#[allow(missing_docs)]
+pub enum Command {
+    Clip(Rect),
+    Pop,
+    Fill(Shape),
+    Stroke(Shape, Stroke),
+    Run(Run, Vec<Glyph>),
+    Scene(Scene),
+}
+
 /// A run with more glyphs than its count has room for: 65,535.
 #[derive(Debug, Clone, Copy, PartialEq, Eq)]
 pub struct TooManyGlyphs(
@@ -124,14 +140,17 @@ impl fmt::Display for TooManyGlyphs {
 
 impl Error for TooManyGlyphs {}
 
-const END: u8 = 0;
-const CLIP: u8 = 1;
-const POP: u8 = 2;
-const FILL: u8 = 3;
-const STROKE: u8 = 4;
-const RUN: u8 = 5;
-const GLYPH: u8 = 6;
-const SCENE: u8 = 7;
+/// The strip table's bytes.
+mod code {
+    pub const END: u8 = 0;
+    pub const CLIP: u8 = 1;
+    pub const POP: u8 = 2;
+    pub const FILL: u8 = 3;
+    pub const STROKE: u8 = 4;
+    pub const RUN: u8 = 5;
+    pub const GLYPH: u8 = 6;
+    pub const SCENE: u8 = 7;
+}
 
 impl Strip {
     /// A page without commands.
@@ -142,25 +161,25 @@ impl Strip {
 
     /// Opens a clip: what follows shows only within this box, until the matching [`Strip::pop`].
     pub fn clip(&mut self, bounds: Rect) -> &mut Self {
-        self.bytes.push(CLIP);
+        self.bytes.push(code::CLIP);
         self.floats(bounds.edges())
     }
 
     /// Closes the innermost clip.
     pub fn pop(&mut self) -> &mut Self {
-        self.bytes.push(POP);
+        self.bytes.push(code::POP);
         self
     }
 
     /// Fills a path.
     pub fn fill(&mut self, shape: Shape) -> &mut Self {
-        self.bytes.push(FILL);
+        self.bytes.push(code::FILL);
         self.shape(shape)
     }
 
     /// Strokes a path.
     pub fn stroke(&mut self, shape: Shape, stroke: Stroke) -> &mut Self {
-        self.bytes.push(STROKE);
+        self.bytes.push(code::STROKE);
         self.shape(shape).floats([stroke.width]);
         self.bytes.push(stroke.join as u8);
         self.floats([stroke.miter_limit]);
@@ -176,7 +195,7 @@ impl Strip {
     /// Nothing is written where there are more glyphs than the count of a run has room for.
     pub fn run(&mut self, run: Run, glyphs: &[Glyph]) -> Result<&mut Self, TooManyGlyphs> {
         let count = u16::try_from(glyphs.len()).map_err(|_| TooManyGlyphs(glyphs.len()))?;
-        self.bytes.push(RUN);
+        self.bytes.push(code::RUN);
         self.number(run.font);
         self.bytes.extend(run.size.to_le_bytes());
         self.floats(run.affine.0)
@@ -184,7 +203,7 @@ impl Strip {
             .floats(run.bounds.edges());
         self.bytes.extend(count.to_le_bytes());
         for glyph in glyphs {
-            self.bytes.push(GLYPH);
+            self.bytes.push(code::GLYPH);
             self.bytes.extend(glyph.id.to_le_bytes());
             self.bytes.extend(glyph.x.to_le_bytes());
             self.bytes.extend(glyph.y.to_le_bytes());
@@ -195,12 +214,28 @@ impl Strip {
 
     /// Replays a recorded drawing.
     pub fn scene(&mut self, scene: Scene) -> &mut Self {
-        self.bytes.push(SCENE);
+        self.bytes.push(code::SCENE);
         self.number(scene.content)
             .number(scene.generation)
             .number(scene.target)
             .floats(scene.affine.0)
             .floats(scene.bounds.edges())
+    }
+
+    /// Writes a command.
+    ///
+    /// # Errors
+    ///
+    /// As [`Strip::run`].
+    pub fn push(&mut self, command: &Command) -> Result<&mut Self, TooManyGlyphs> {
+        Ok(match command {
+            Command::Clip(bounds) => self.clip(*bounds),
+            Command::Pop => self.pop(),
+            Command::Fill(shape) => self.fill(*shape),
+            Command::Stroke(shape, stroke) => self.stroke(*shape, *stroke),
+            Command::Run(run, glyphs) => return self.run(*run, glyphs),
+            Command::Scene(scene) => self.scene(*scene),
+        })
     }
 
     /// Removes all commands and keeps the memory.
@@ -217,7 +252,7 @@ impl Strip {
     /// Appends the commands and their END.
     pub fn end(&self, input: &mut Vec<u8>) {
         input.extend_from_slice(&self.bytes);
-        input.push(END);
+        input.push(code::END);
     }
 
     fn shape(&mut self, shape: Shape) -> &mut Self {

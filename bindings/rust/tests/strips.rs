@@ -3,116 +3,22 @@
 mod common;
 
 use common::{example, page, printed, BOX, GLYPH, HEADER, RUN, SCENE, SHAPE, STROKE};
-use sovdringa::strip::{
-    first_input, next_input, Cap, Glyph, Join, Run, Scene, Shape, Strip, Stroke,
-};
+use sovdringa::strip::{first_input, next_input, read, Shape, Strip};
 use sovdringa::{plan_first, plan_next, Affine, Header, Rect, Space};
 
-/// Reads an input's bytes back, by the lengths and places of document 01's table.
-struct Reader<'a>(&'a [u8]);
-
-impl Reader<'_> {
-    fn bytes<const N: usize>(&mut self) -> [u8; N] {
-        let (bytes, rest) = self.0.split_at(N);
-        self.0 = rest;
-        bytes.try_into().expect("N bytes")
-    }
-
-    fn byte(&mut self) -> u8 {
-        self.bytes::<1>()[0]
-    }
-
-    fn word(&mut self) -> u32 {
-        u32::from_le_bytes(self.bytes())
-    }
-
-    fn number(&mut self) -> u64 {
-        u64::from_le_bytes(self.bytes())
-    }
-
-    fn single(&mut self) -> f32 {
-        f32::from_le_bytes(self.bytes())
-    }
-
-    fn double(&mut self) -> f64 {
-        f64::from_le_bytes(self.bytes())
-    }
-
-    fn rect(&mut self) -> Rect {
-        let [x0, y0, x1, y1] = std::array::from_fn(|_| self.double());
-        Rect::new(x0, y0, x1, y1)
-    }
-
-    fn affine(&mut self) -> Affine {
-        Affine(std::array::from_fn(|_| self.double()))
-    }
-
-    fn shape(&mut self) -> Shape {
-        Shape {
-            path: self.number(),
-            bounds: self.rect(),
-            affine: self.affine(),
-            brush: self.number(),
-        }
-    }
-
-    fn cap(&mut self) -> Cap {
-        [Cap::Butt, Cap::Square, Cap::Round][usize::from(self.byte())]
-    }
-
-    /// The commands up to END, written anew.
-    fn strip(&mut self) -> Strip {
-        let mut strip = Strip::new();
-        loop {
-            match self.byte() {
-                0 => return strip,
-                1 => strip.clip(self.rect()),
-                2 => strip.pop(),
-                3 => strip.fill(self.shape()),
-                4 => strip.stroke(
-                    self.shape(),
-                    Stroke {
-                        width: self.double(),
-                        join: [Join::Bevel, Join::Miter, Join::Round][usize::from(self.byte())],
-                        miter_limit: self.double(),
-                        start_cap: self.cap(),
-                        end_cap: self.cap(),
-                        dash: self.number(),
-                    },
-                ),
-                5 => {
-                    let run = Run {
-                        font: self.number(),
-                        size: self.single(),
-                        affine: self.affine(),
-                        brush: self.number(),
-                        bounds: self.rect(),
-                    };
-                    let count = u16::from_le_bytes(self.bytes());
-                    let glyphs: Vec<Glyph> = (0..count)
-                        .map(|_| {
-                            assert_eq!(self.byte(), 6, "a glyph was announced");
-                            Glyph {
-                                id: self.word(),
-                                x: self.single(),
-                                y: self.single(),
-                                bounds: self.rect(),
-                            }
-                        })
-                        .collect();
-                    strip.run(run, &glyphs).expect("the count was a u16")
-                }
-                7 => strip.scene(Scene {
-                    content: self.number(),
-                    generation: self.number(),
-                    target: self.number(),
-                    affine: self.affine(),
-                    bounds: self.rect(),
-                }),
-                byte => panic!("no command has the byte {byte}"),
-            };
-        }
-    }
+/// The pages of an input, written anew.
+fn rewritten(input: &[u8]) -> Vec<Strip> {
+    let (_, pages) = read(input).expect("whole commands");
+    pages
+        .iter()
+        .map(|page| {
+            let mut strip = Strip::new();
+            for command in page {
+                strip.push(command).expect("a count that was read");
+            }
+            strip
+        })
+        .collect()
 }
 
 #[test]
@@ -120,11 +26,26 @@ fn the_example_is_written_to_the_byte() {
     for name in ["districts", "empty-runs"] {
         let input = example(&format!("{name}.bin"));
         let header = Header::read(&input).expect("a header");
-        let mut reader = Reader(&input[Header::LENGTH..]);
-        let (old, new) = (reader.strip(), reader.strip());
-        assert_eq!(reader.0, [], "nothing follows");
-        assert_eq!(next_input(header, &old, &new), input);
+        let pages = rewritten(&input);
+        assert_eq!(pages.len(), 2);
+        assert_eq!(next_input(header, &pages[0], &pages[1]), input);
     }
+}
+
+#[test]
+fn what_is_cut_off_or_no_command_is_not_read() {
+    let input = first_input(HEADER, &page());
+    for length in 0..input.len() {
+        let pages = read(&input[..length]).map(|(_, pages)| pages.len());
+        assert_eq!(
+            pages,
+            (length == Header::LENGTH).then_some(0),
+            "{length} bytes"
+        );
+    }
+    let mut wrong = input.clone();
+    wrong[Header::LENGTH] = 8;
+    assert_eq!(read(&wrong), None);
 }
 
 #[test]
@@ -141,8 +62,7 @@ fn the_example_has_its_plan() {
 #[test]
 fn a_page_of_every_command_is_read_back() {
     let input = first_input(HEADER, &page());
-    let mut reader = Reader(&input[Header::LENGTH..]);
-    assert_eq!(reader.strip(), page());
+    assert_eq!(rewritten(&input), [page()]);
     let mut space = Space::for_input(&input);
     let plan = plan_first(&mut space, &input).expect("such a page has a plan");
     assert_eq!(plan.counts().commands, 4);
