@@ -1,6 +1,7 @@
 //! Times the proved planner beside dew's Rust, on the same page turns, in one process.
 //!
 //! - no argument: the tables
+//! - `document FILE`: the same, put in the place of those that the file has
 //! - `rows`: the names of the rows
 //! - `one ROW COUNT`: plans one row's page turn so many times, ours alone, for a profiler; `one-dew` likewise, dew's alone
 
@@ -167,64 +168,96 @@ fn compare(ours: &mut Ours, dews: &dews::Dews) {
     assert!(alike, "the plans differ");
 }
 
-fn table() {
-    println!("Microseconds a page turn, medians. `dew` is diff_dirty, schedule and BandIndex::build on lists that are already");
-    println!("built; `dew+list` adds pushing the new page's commands. Ours reads both strips from bytes and clears its scratch.");
-    println!();
-    println!("| Page turn | Bytes | Rectangles | Regions | Index words | Ours | dew | dew+list | dew / ours | dew+list / ours |");
-    println!("|---|--:|--:|--:|--:|--:|--:|--:|--:|--:|");
+/// The page turns, a row each, printed while they are measured.
+fn table() -> String {
+    let mut lines = Lines::default();
+    lines.push("| Page turn | Bytes | Rectangles | Regions | Index words | Ours | dew | dew+list | dew / ours | dew+list / ours |".to_owned());
+    lines.push("|---|--:|--:|--:|--:|--:|--:|--:|--:|--:|".to_owned());
     for (name, turn) in rows() {
         let (ours, times) = time(&turn());
         let counts = ours.counts;
-        print!(
-            "| {name} | {} | {} | {} | {} | {:.1} |",
+        let dew = times.dew.map_or_else(
+            || "– | – | – | –".to_owned(),
+            |(plan, build)| {
+                let (list, own) = (plan + build, times.ours);
+                format!(
+                    "{plan:.1} | {list:.1} | {:.2} | {:.2}",
+                    plan / own,
+                    list / own
+                )
+            },
+        );
+        lines.push(format!(
+            "| {name} | {} | {} | {} | {} | {:.1} | {dew} |",
             ours.bytes(),
             counts.rectangles,
             counts.regions,
             counts.index_words,
             times.ours
-        );
-        match times.dew {
-            Some((plan, build)) => println!(
-                " {plan:.1} | {:.1} | {:.2} | {:.2} |",
-                plan + build,
-                plan / times.ours,
-                (plan + build) / times.ours
-            ),
-            None => println!(" – | – | – | – |"),
+        ));
+    }
+    lines.0
+}
+
+/// What doubles, with the times at both ends and the least and greatest factor of a doubling.
+fn growth_table() -> String {
+    let mut lines = Lines::default();
+    lines.push("| What doubles | Sizes | Ours | A doubling | dew | A doubling |".to_owned());
+    lines.push("|---|---|---|---|---|---|".to_owned());
+    for (name, sizes) in growth() {
+        let (mut ours, mut dew) = (Vec::new(), Vec::new());
+        let (first, last) = (sizes[0].0, sizes[sizes.len() - 1].0);
+        for (_, (_, turn)) in sizes {
+            let (_, times) = time(&turn());
+            ours.push(times.ours);
+            dew.extend(times.dew.map(|(plan, _)| plan));
         }
+        let (ours, dew) = (ends_and_factors(&ours), ends_and_factors(&dew));
+        lines.push(format!("| {name} | {first} to {last} | {ours} | {dew} |"));
+    }
+    lines.0
+}
+
+fn ends_and_factors(times: &[f64]) -> String {
+    let factors = times.windows(2).map(|pair| pair[1] / pair[0]);
+    match (times.first(), times.last()) {
+        (Some(first), Some(last)) => format!(
+            "{first:.1} to {last:.1} | {:.2} to {:.2}",
+            factors.clone().fold(f64::INFINITY, f64::min),
+            factors.fold(0.0, f64::max)
+        ),
+        _ => "– | –".to_owned(),
     }
 }
 
-fn growth_tables() {
-    for (name, sizes) in growth() {
-        println!();
-        println!("| Growth: {name} | Ours | times | dew | times |");
-        println!("|--:|--:|--:|--:|--:|");
-        let mut last: Option<Times> = None;
-        for (size, (_, turn)) in sizes {
-            let (_, times) = time(&turn());
-            let factor = |now: f64, before: Option<f64>| {
-                before.map_or_else(|| "–".to_owned(), |before| format!("{:.2}", now / before))
-            };
-            let ours = factor(times.ours, last.as_ref().map(|last| last.ours));
-            let (dew, dew_factor) = times.dew.map_or_else(
-                || ("–".to_owned(), "–".to_owned()),
-                |(plan, _)| {
-                    let before = last
-                        .as_ref()
-                        .and_then(|last| last.dew)
-                        .map(|(plan, _)| plan);
-                    (format!("{plan:.1}"), factor(plan, before))
-                },
-            );
-            println!(
-                "| {size} | {:.1} | {ours} | {dew} | {dew_factor} |",
-                times.ours
-            );
-            last = Some(times);
+/// Lines that are printed and kept.
+#[derive(Default)]
+struct Lines(String);
+
+impl Lines {
+    fn push(&mut self, line: String) {
+        println!("{line}");
+        self.0 += &line;
+        self.0.push('\n');
+    }
+}
+
+/// Puts the tables where a document has others, between the lines that name them.
+fn document(path: &str) -> Result<(), String> {
+    let mut text = std::fs::read_to_string(path).map_err(|error| format!("{path}: {error}"))?;
+    for (name, table) in [("page turns", table()), ("growth", growth_table())] {
+        let (begin, end) = (
+            format!("<!-- {name} -->\n"),
+            format!("<!-- end of {name} -->"),
+        );
+        let from = text.find(&begin).map(|place| place + begin.len());
+        let to = text.find(&end);
+        match (from, to) {
+            (Some(from), Some(to)) if from <= to => text.replace_range(from..to, &table),
+            _ => return Err(format!("{path} has no place for the table of {name}")),
         }
     }
+    std::fs::write(path, text).map_err(|error| format!("{path}: {error}"))
 }
 
 fn find(name: &str) -> Option<Turn> {
@@ -245,8 +278,16 @@ fn main() -> ExitCode {
     let words: Vec<&str> = arguments.iter().map(String::as_str).collect();
     match words[..] {
         [] => {
+            println!("Microseconds a page turn, medians; docs/PERFORMANCE.md says of what.\n");
             table();
-            growth_tables();
+            println!();
+            growth_table();
+        }
+        ["document", path] => {
+            if let Err(message) = document(path) {
+                eprintln!("bench: {message}");
+                return ExitCode::FAILURE;
+            }
         }
         ["rows"] => rows().iter().for_each(|(name, _)| println!("{name}")),
         [which @ ("one" | "one-dew"), name, count] => {
@@ -270,9 +311,23 @@ fn main() -> ExitCode {
             }
         }
         _ => {
-            eprintln!("bench [rows | one ROW COUNT | one-dew ROW COUNT]");
+            eprintln!("bench [document FILE | rows | one ROW COUNT | one-dew ROW COUNT]");
             return ExitCode::FAILURE;
         }
     }
     ExitCode::SUCCESS
+}
+
+/// Every page turn that is timed has the same plan by both.
+#[cfg(dew)]
+#[test]
+fn plans_are_alike() {
+    let largest = growth()
+        .into_iter()
+        .filter_map(|(_, mut rows)| Some(rows.pop()?.1));
+    for (name, turn) in rows().into_iter().chain(largest) {
+        println!("{name}");
+        let turn = turn();
+        compare(&mut Ours::new(&turn), &dews::Dews::new(&turn));
+    }
 }
