@@ -17,6 +17,15 @@ fn main() {
         || Path::new(&package).join(IN_THE_REPOSITORY),
         PathBuf::from,
     );
+    let target = ["CARGO_CFG_TARGET_ARCH", "CARGO_CFG_TARGET_OS"]
+        .map(|name| env::var(name).unwrap_or_default());
+    if target != ["x86_64", "linux"] {
+        println!(
+            "cargo::error=the planner's library is for x86-64 Linux, and this build is for {}",
+            target.join(" ")
+        );
+        std::process::exit(1);
+    }
     let archive = folder.join("libsovdringa.a");
     // A path that does not exist makes cargo look again at the next build.
     println!("cargo::rerun-if-changed={}", archive.display());

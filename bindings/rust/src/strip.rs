@@ -109,7 +109,7 @@ pub struct Scene {
     pub bounds: Rect,
 }
 
-/// One command of a strip, as [`read`](crate::strip::read) finds it.
+/// One command of a strip, as [`read`] finds it.
 #[derive(Debug, Clone, PartialEq)]
 #[allow(missing_docs)]
 pub enum Command {
