@@ -7,6 +7,8 @@ use kurbo::{Affine, BezPath, Cap, Join, Rect, Shape as _, Stroke};
 use peniko::FontData;
 use sovdringa::strip::{self, Strip};
 
+use crate::planner::{Error, NotTurned};
+
 /// A page that the planner accepted, or may.
 #[derive(Debug)]
 pub(crate) struct Page {
@@ -48,7 +50,7 @@ impl Page {
         list: DisplayList,
         last: Option<&Self>,
         used: &mut u64,
-    ) -> Result<Self, (DisplayList, Unwritten)> {
+    ) -> Result<Self, Box<NotTurned>> {
         let mut strip = Strip::new();
         let mut open: Vec<Rect> = Vec::new();
         let mut numbers = Vec::with_capacity(list.commands().len());
@@ -61,7 +63,10 @@ impl Page {
             let written = clip(&mut strip, &mut open, placed, place)
                 .and_then(|()| draw(&mut strip, placed, number, place));
             if let Err(unwritten) = written {
-                return Err((list, unwritten));
+                return Err(Box::new(NotTurned {
+                    list,
+                    error: Error::Unwritten(unwritten),
+                }));
             }
             numbers.push(number);
         }

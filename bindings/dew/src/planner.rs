@@ -82,13 +82,8 @@ impl Planner {
     /// # Errors
     ///
     /// The list is handed back where it has no strip or the planner refuses it.
-    pub fn turn(&mut self, list: DisplayList) -> Result<Turn<'_>, NotTurned> {
-        let page = Page::new(list, self.current.as_ref(), &mut self.used).map_err(
-            |(list, unwritten)| NotTurned {
-                list,
-                error: Error::Unwritten(unwritten),
-            },
-        )?;
+    pub fn turn(&mut self, list: DisplayList) -> Result<Turn<'_>, Box<NotTurned>> {
+        let page = Page::new(list, self.current.as_ref(), &mut self.used)?;
         self.input.clear();
         self.input.extend(self.header.bytes());
         if let Some(current) = &self.current {
@@ -104,10 +99,10 @@ impl Planner {
                 plan,
                 list: &self.current.insert(page).list,
             }),
-            Err(refusal) => Err(NotTurned {
+            Err(refusal) => Err(Box::new(NotTurned {
                 list: page.list,
                 error: Error::Refused(refusal),
-            }),
+            })),
         }
     }
 }
