@@ -57,7 +57,7 @@ impl Limits {
     ///
     /// A rectangle may have a region, and a command an index word, in every band. On a high screen of low bands that is far
     /// more than a plan has: 4,096 commands and 32,768 bands are 512 MB of words. [`plan_next_growing`](crate::plan_next_growing)
-    /// begins with what there is.
+    /// begins with what there is. For bytes of others, set limits of your own and take number 10 for an answer.
     #[must_use]
     pub fn for_input(input: &[u8]) -> Self {
         let mut limits = Self::for_len(input.len());
