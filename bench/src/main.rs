@@ -34,7 +34,7 @@ const fn banded(width: u32, height: u32, band_height: u32) -> Header {
 
 /// The table's rows.
 fn rows() -> Vec<Row> {
-    let mut rows = Vec::new();
+    let mut rows = vec![row("districts", pages::districts)];
     for changes in [Changes::Few, Changes::Many] {
         let name = changes.name();
         for commands in [50, 200, 1_000, 4_096] {

@@ -2,6 +2,7 @@
 
 use kurbo::{Affine, Cap, Join, Rect};
 use oracle::command::{Draw, Glyph, Op, Pen, Run, Scene, Shape};
+use oracle::entry::{self, Entry};
 use oracle::header::Header;
 use oracle::random::Random;
 use oracle::write;
@@ -27,6 +28,17 @@ impl Turn {
         input.extend(write::strip(&self.old));
         input.extend(write::strip(&self.new));
         input
+    }
+}
+
+/// The repository's example: a table of districts and its next release.
+pub fn districts() -> Turn {
+    let input = include_bytes!("../../examples/districts.bin");
+    let frame = entry::read(Entry::Later, input).expect("the example has a plan");
+    Turn {
+        header: frame.header,
+        old: frame.old.expect("two strips"),
+        new: frame.new,
     }
 }
 
