@@ -70,7 +70,8 @@ pub fn plan(header: &Header, old: Option<&[Op]>, new: &[Op]) -> Plan {
 }
 
 /// Dew's list of a strip's operations.
-pub(crate) fn list(scenes: &mut SceneTable, ops: &[Op]) -> DisplayList {
+#[must_use]
+pub fn list(scenes: &mut SceneTable, ops: &[Op]) -> DisplayList {
     let mut list = DisplayList::new();
     for op in ops {
         match op {
@@ -82,7 +83,9 @@ pub(crate) fn list(scenes: &mut SceneTable, ops: &[Op]) -> DisplayList {
     list
 }
 
-fn command(scenes: &mut SceneTable, draw: &Draw) -> DrawCommand {
+/// Dew's command of a strip's, not yet clipped.
+#[must_use]
+pub fn command(scenes: &mut SceneTable, draw: &Draw) -> DrawCommand {
     match draw {
         Draw::Fill(shape) => DrawCommand::FillPath {
             path: path(shape),
@@ -144,7 +147,8 @@ const fn glyph(glyph: &Glyph) -> vello_cpu::Glyph {
 }
 
 /// Dew's index of a list, row by row.
-pub(crate) fn index(header: &Header, list: &DisplayList) -> Vec<Vec<u32>> {
+#[must_use]
+pub fn index(header: &Header, list: &DisplayList) -> Vec<Vec<u32>> {
     let index = BandIndex::build(list, header.height, header.band_height);
     (0..header.rows())
         .map(|row| {
