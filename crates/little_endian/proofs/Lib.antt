@@ -1,2 +1,3 @@
 -- Laws of bytes and numbers past the end, for the crates above.
 pub mod Past
+pub mod Parts

@@ -53,13 +53,24 @@ pub fn u32_at(s: &[u8], at: usize) -> u64
     wide(s[at]) + 256 * wide(s[at + 1]) + 65536 * wide(s[at + 2]) + 16777216 * wide(s[at + 3])
 }
 
+fn u64_cut(s: &[u8], at: usize) -> u64
+    requires { ⌜ at < length (now s) ⌝ }
+    ensures { λ r. ⌜ r ≡ u64At (now (s .entry)) at ⌝ }
+{
+    u32_at(s, at) + 4294967296 * u32_at(s, at + 4)
+}
+
+// The part that has all eight bytes says by its length that they are there.
 pub fn u64_at(s: &[u8], at: usize) -> u64
     ensures { λ r. ⌜ r ≡ u64At (now (s .entry)) at ⌝ }
 {
     if s.len() <= at {
         return 0;
     }
-    u32_at(s, at) + 4294967296 * u32_at(s, at + 4)
+    if s.len() - at < 8 {
+        return u64_cut(s, at);
+    }
+    u64_cut(&s[at..at + 8], 0)
 }
 
 // Whether a pattern is a finite f64's: its exponent is not all ones.

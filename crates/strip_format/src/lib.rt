@@ -2,7 +2,7 @@
 // an offset, whatever the offset: past the end every byte counts as 0. What is compared later is decoded here again, so it
 // is what was read.
 ghost use mathlib.Core.Path.{_≡_};
-ghost use Prim.Native.Nat.{_+_, _≤_};
+ghost use Prim.Native.Nat.{_+_, _≤_, _<_};
 ghost use lib.ListN.{length};
 ghost use Rattle.strip_format.specs.Format as Format;
 use affine::Affine;
@@ -28,6 +28,20 @@ pub fn length_of(b: u8) -> usize
     }
 }
 
+// A box whose last bytes may be missing.
+fn rect_cut(s: &[u8], at: usize) -> Rect
+    requires { ⌜ at < length (now s) ⌝ }
+    ensures { λ r. ⌜ r ≡ Format.rectAt (now (s .entry)) at ⌝ }
+{
+    Rect {
+        x0: little_endian::f64_at(s, at),
+        y0: little_endian::f64_at(s, at + 8),
+        x1: little_endian::f64_at(s, at + 16),
+        y1: little_endian::f64_at(s, at + 24),
+    }
+}
+
+// The part that has all its bytes says by its length that they are there, so that none is asked for.
 pub fn rect_at(s: &[u8], at: usize) -> Rect
     ensures { λ r. ⌜ r ≡ Format.rectAt (now (s .entry)) at ⌝ }
 {
@@ -39,11 +53,24 @@ pub fn rect_at(s: &[u8], at: usize) -> Rect
             y1: 0.0,
         };
     }
-    Rect {
-        x0: little_endian::f64_at(s, at),
-        y0: little_endian::f64_at(s, at + 8),
-        x1: little_endian::f64_at(s, at + 16),
-        y1: little_endian::f64_at(s, at + 24),
+    if s.len() - at < 32 {
+        return rect_cut(s, at);
+    }
+    rect_cut(&s[at..at + 32], 0)
+}
+
+// An affine whose last bytes may be missing.
+fn affine_cut(s: &[u8], at: usize) -> Affine
+    requires { ⌜ at < length (now s) ⌝ }
+    ensures { λ r. ⌜ r ≡ Format.affineAt (now (s .entry)) at ⌝ }
+{
+    Affine {
+        a: little_endian::f64_at(s, at),
+        b: little_endian::f64_at(s, at + 8),
+        c: little_endian::f64_at(s, at + 16),
+        d: little_endian::f64_at(s, at + 24),
+        e: little_endian::f64_at(s, at + 32),
+        f: little_endian::f64_at(s, at + 40),
     }
 }
 
@@ -60,14 +87,10 @@ pub fn affine_at(s: &[u8], at: usize) -> Affine
             f: 0.0,
         };
     }
-    Affine {
-        a: little_endian::f64_at(s, at),
-        b: little_endian::f64_at(s, at + 8),
-        c: little_endian::f64_at(s, at + 16),
-        d: little_endian::f64_at(s, at + 24),
-        e: little_endian::f64_at(s, at + 32),
-        f: little_endian::f64_at(s, at + 40),
+    if s.len() - at < 48 {
+        return affine_cut(s, at);
     }
+    affine_cut(&s[at..at + 48], 0)
 }
 
 fn join_of(code: u8) -> Join

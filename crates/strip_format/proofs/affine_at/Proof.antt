@@ -1,7 +1,8 @@
 use denote.Ref.{now}
 use native.Mathlib.Omega.{arith}
-use mathlib.Core.Path.{sym}
+use mathlib.Core.Path.{sym, _∙_}
 use Rattle.strip_format.proofs.Past.{affine-past}
+use Rattle.strip_format.proofs.Parts.{affine-in}
 use borrow.Author.Needs.{needs}
 use Rattle.strip_format.proofs.affine_at.Statement.{statement}
 use Rattle.strip_format.proofs.affine_at.Tie as tie
@@ -9,13 +10,12 @@ use Rattle.strip_format.proofs.affine_at.Tie as tie
 returns : tie.Need-returns
 returns c = sym (affine-past (now (c .before .before .args .s)) _ (omega (arith, c .if1 .taken)))
 
-returns-2 : tie.Need-returns-2
-returns-2 c = cc
+returns-3 : tie.Need-returns-3
+returns-3 c = c .affine-cut2 .ensures ∙ affine-in (now (c .before .before .before .before .before .args .s)) (c .before .before .before .before .before .args .at)
 
 pub affine-at-spec : {M : Type 1} → statement M
 affine-at-spec =
     tie.close
     (tie.spec
-    returns (λ c κs. search needs) (λ c. search needs) (λ c κs. search needs) (λ c. search needs) (λ c κs. search needs)
-    (λ c. search needs) (λ c κs. search needs) (λ c. search needs) (λ c κs. search needs) (λ c. search needs) (λ c κs. search needs)
-    returns-2)
+    returns (λ c. search needs) (λ c κs. search needs) (λ c. search needs) (λ c. search needs) (λ c. search needs) (λ c. search needs)
+    (λ c. search needs) (λ c κs. search needs) returns-3)
