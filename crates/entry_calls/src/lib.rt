@@ -1,5 +1,4 @@
-// Calls of the planner's two entries with space that the call names, and their answers as text. More space than two strips at
-// every limit need is there; a call is lent as much of it as it asks for.
+// Calls of the planner's two entries with the space that they name, and the answers in the oracle's full form.
 ghost use Prim.Native.Nat.{_≤_};
 use plans::Plan;
 
@@ -42,7 +41,7 @@ fn eights(items: usize, most: usize) -> usize
     8 * ones(items, most / 8)
 }
 
-// What the entry answers. Nothing is said of it here, so that callers carry no facts along.
+// What the entry answers. Nothing is said of it here, so that the caller carries no facts along.
 fn plan_entry(
     entry: u8,
     input: &[u8],
@@ -96,6 +95,7 @@ fn plan_entry(
     )
 }
 
+// Arrays rather than slices: what was lent keeps its length by its type.
 fn put_answer(
     out: &mut [u8; 4096],
     at: usize,
@@ -112,7 +112,8 @@ fn put_answer(
     full_form::put_next(out, at, input, plan, rects, regions, words)
 }
 
-// The answer to a call.
+// The answer to a call, lent as much as it names of more space than two strips at every limit need. The space is made anew for
+// each call: handing thirteen slices down from further up costs the prover a quarter of a minute at each function.
 pub fn answer_entry(
     out: &mut [u8; 4096],
     at: usize,

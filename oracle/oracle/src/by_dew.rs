@@ -70,7 +70,7 @@ pub fn plan(header: &Header, old: Option<&[Op]>, new: &[Op]) -> Plan {
 }
 
 /// Dew's list of a strip's operations.
-pub(crate) fn list(scenes: &mut SceneTable, ops: &[Op]) -> DisplayList {
+fn list(scenes: &mut SceneTable, ops: &[Op]) -> DisplayList {
     let mut list = DisplayList::new();
     for op in ops {
         match op {
@@ -144,7 +144,7 @@ const fn glyph(glyph: &Glyph) -> vello_cpu::Glyph {
 }
 
 /// Dew's index of a list, row by row.
-pub(crate) fn index(header: &Header, list: &DisplayList) -> Vec<Vec<u32>> {
+fn index(header: &Header, list: &DisplayList) -> Vec<Vec<u32>> {
     let index = BandIndex::build(list, header.height, header.band_height);
     (0..header.rows())
         .map(|row| {
