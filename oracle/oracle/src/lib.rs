@@ -15,8 +15,6 @@ pub mod generate;
 pub mod header;
 pub mod model;
 pub mod panels;
-#[cfg(dew)]
-pub mod parts;
 pub mod plan;
 pub mod planners;
 pub mod print;

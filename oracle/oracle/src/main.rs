@@ -38,8 +38,6 @@ oracle generate --kind K --seeds A..B [--calls]
 oracle compare --program P [--arg A].. --kind K --seeds A..B [--batch | --calls]
                [--shrink] [--out DIR]
 oracle panels --seeds A..B
-oracle parts --seeds A..B                   cases of single parts
-oracle answer-parts                         dew's answers to them
 oracle answers --out DIR
 with --model: by document 01's planner instead of dew; with --mistake NAME: by it with a mistake
 ";
@@ -83,17 +81,6 @@ fn run(mut arguments: Arguments) -> Result<ExitCode, String> {
         "generate" => generate(arguments),
         "compare" => compare(arguments),
         "panels" => panels(arguments),
-        #[cfg(dew)]
-        "parts" => parts(arguments),
-        #[cfg(dew)]
-        "answer-parts" => {
-            arguments.finish()?;
-            let mut out = io::BufWriter::new(io::stdout().lock());
-            let done = oracle::parts::answer_cases(io::stdin().lock(), &mut out);
-            done.and_then(|()| out.flush())
-                .map_err(|error| error.to_string())?;
-            Ok(ExitCode::SUCCESS)
-        }
         "answers" => answers(arguments),
         _ => Err(USAGE.to_owned()),
     }
@@ -167,19 +154,6 @@ fn generate(mut arguments: Arguments) -> Result<ExitCode, String> {
     }
     arguments.finish()?;
     write(&output)
-}
-
-#[cfg(dew)]
-fn parts(mut arguments: Arguments) -> Result<ExitCode, String> {
-    let seeds = arguments.seeds()?;
-    let planner = planner(&mut arguments)?;
-    arguments.finish()?;
-    let mut out = io::BufWriter::new(io::stdout().lock());
-    for seed in seeds {
-        oracle::parts::write_cases(seed, &planner, &mut out).map_err(|error| error.to_string())?;
-    }
-    out.flush().map_err(|error| error.to_string())?;
-    Ok(ExitCode::SUCCESS)
 }
 
 fn compare(mut arguments: Arguments) -> Result<ExitCode, String> {

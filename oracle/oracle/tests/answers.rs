@@ -47,7 +47,7 @@ fn the_entries_give_the_stored_answers() {
 
 #[test]
 fn the_replay_program_is_held_to_the_stored_calls() {
-    let replay = Path::new(env!("CARGO_MANIFEST_DIR")).join("../replay/replay");
+    let replay = Path::new(env!("CARGO_MANIFEST_DIR")).join("../../crates/replay");
     for (name, file) in [("calls.in", "stdin"), ("calls.out", "stdout")] {
         let path = replay.join(file);
         let held = fs::read(&path).unwrap_or_else(|error| panic!("{}: {error}", path.display()));

@@ -1,5 +1,5 @@
 // Answers in the oracle's full form: everything that a call says, an edge as its bits. A plan is not taken at its word
-// here: what it counts past the space lent is left out, so that a wrong count shows as a difference of the text.
+// here: what it counts past the words given is left out, so that a wrong count shows as a difference of the text.
 ghost use Prim.Native.Nat.{_+_, _*_, _≤_};
 ghost use lib.ListN.{length};
 use frame::First;
