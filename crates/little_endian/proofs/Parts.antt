@@ -36,3 +36,11 @@ module _ (s : List ℕ) (at n : ℕ) where
 
   pub f64-in : (k place : ℕ) → k + 8 ≤ n → place ≡ at + k → f64At (part s at n) k ≡ f64At s place
   f64-in k place h e = ap (finiteOr binary64) (u64-in k place h e)
+
+-- eight bytes of a part, read as two halves
+pub halves-in : (s : List ℕ) (at low high : ℕ) → low ≡ u32At (part s at 8) 0 → high ≡ u32At (part s at 8) 4 → low + 4294967296 * high ≡ u64At s at
+unfolding u64At
+halves-in s at low high p q =
+    let a = u32-in s at 8 0 at (omega arith) (omega arith) in
+    let b = u32-in s at 8 4 (at + 4) (omega arith) (omega arith) in
+    omega arith

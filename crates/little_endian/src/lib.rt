@@ -70,7 +70,8 @@ pub fn u64_at(s: &[u8], at: usize) -> u64
     if s.len() - at < 8 {
         return u64_cut(s, at);
     }
-    u64_cut(&s[at..at + 8], 0)
+    let part = &s[at..at + 8];
+    u32_at(part, 0) + 4294967296 * u32_at(part, 4)
 }
 
 // Whether a pattern is a finite f64's: its exponent is not all ones.

@@ -56,7 +56,13 @@ pub fn rect_at(s: &[u8], at: usize) -> Rect
     if s.len() - at < 32 {
         return rect_cut(s, at);
     }
-    rect_cut(&s[at..at + 32], 0)
+    let part = &s[at..at + 32];
+    Rect {
+        x0: little_endian::f64_at(part, 0),
+        y0: little_endian::f64_at(part, 8),
+        x1: little_endian::f64_at(part, 16),
+        y1: little_endian::f64_at(part, 24),
+    }
 }
 
 // An affine whose last bytes may be missing.
@@ -90,7 +96,15 @@ pub fn affine_at(s: &[u8], at: usize) -> Affine
     if s.len() - at < 48 {
         return affine_cut(s, at);
     }
-    affine_cut(&s[at..at + 48], 0)
+    let part = &s[at..at + 48];
+    Affine {
+        a: little_endian::f64_at(part, 0),
+        b: little_endian::f64_at(part, 8),
+        c: little_endian::f64_at(part, 16),
+        d: little_endian::f64_at(part, 24),
+        e: little_endian::f64_at(part, 32),
+        f: little_endian::f64_at(part, 40),
+    }
 }
 
 fn join_of(code: u8) -> Join

@@ -11,11 +11,12 @@ returns : tie.Need-returns
 returns c = sym (affine-past (now (c .before .before .args .s)) _ (omega (arith, c .if1 .taken)))
 
 returns-3 : tie.Need-returns-3
-returns-3 c = c .affine-cut2 .ensures ∙ affine-in (now (c .before .before .before .before .before .args .s)) (c .before .before .before .before .before .args .at)
+returns-3 c = (λ i. record { a = c .before .before .before .before .before .f64-at .ensures i; b = c .before .before .before .before .f64-at2 .ensures i; c = c .before .before .before .f64-at3 .ensures i; d = c .before .before .f64-at4 .ensures i; e = c .before .f64-at5 .ensures i; f = c .f64-at6 .ensures i }) ∙ affine-in (now (c .before .before .before .before .before .before .before .before .before .before .args .s)) (c .before .before .before .before .before .before .before .before .before .before .args .at)
 
 pub affine-at-spec : {M : Type 1} → statement M
 affine-at-spec =
     tie.close
     (tie.spec
     returns (λ c. search needs) (λ c κs. search needs) (λ c. search needs) (λ c. search needs) (λ c. search needs) (λ c. search needs)
-    (λ c. search needs) (λ c κs. search needs) returns-3)
+    (λ c. search needs) (λ c κs. search needs) (λ c κs. search needs) (λ c κs. search needs) (λ c κs. search needs)
+    (λ c κs. search needs) (λ c κs. search needs) returns-3)
