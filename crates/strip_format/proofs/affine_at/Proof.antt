@@ -1,8 +1,8 @@
+use Rattle.strip_format.proofs.Offsets.{ahead}
 use denote.Ref.{now}
 use native.Mathlib.Omega.{arith}
 use mathlib.Core.Path.{sym}
 use Rattle.strip_format.proofs.Past.{affine-past}
-use borrow.Author.Needs.{needs}
 use Rattle.strip_format.proofs.affine_at.Statement.{statement}
 use Rattle.strip_format.proofs.affine_at.Tie as tie
 
@@ -10,12 +10,12 @@ returns : tie.Need-returns
 returns c = sym (affine-past (now (c .before .before .args .s)) _ (omega (arith, c .if1 .taken)))
 
 returns-2 : tie.Need-returns-2
-returns-2 c = cc
+returns-2 c = λ i. record { a = c .before .before .before .before .before .f64-at .ensures i; b = c .before .before .before .before .f64-at2 .ensures i; c = c .before .before .before .f64-at3 .ensures i; d = c .before .before .f64-at4 .ensures i; e = c .before .f64-at5 .ensures i; f = c .f64-at6 .ensures i }
 
 pub affine-at-spec : {M : Type 1} → statement M
 affine-at-spec =
     tie.close
     (tie.spec
-    returns (λ c κs. search needs) (λ c. search needs) (λ c κs. search needs) (λ c. search needs) (λ c κs. search needs)
-    (λ c. search needs) (λ c κs. search needs) (λ c. search needs) (λ c κs. search needs) (λ c. search needs) (λ c κs. search needs)
+    returns (λ c κs. tt) (λ c. ahead 8 tt (c .before .if1 .left) (c .before .before .before .good .0 .1)) (λ c κs. tt) (λ c. ahead 16 tt (c .before .before .if1 .left) (c .before .before .before .before .good .0 .1)) (λ c κs. tt)
+    (λ c. ahead 24 tt (c .before .before .before .if1 .left) (c .before .before .before .before .before .good .0 .1)) (λ c κs. tt) (λ c. ahead 32 tt (c .before .before .before .before .if1 .left) (c .before .before .before .before .before .before .good .0 .1)) (λ c κs. tt) (λ c. ahead 40 tt (c .before .before .before .before .before .if1 .left) (c .before .before .before .before .before .before .before .good .0 .1)) (λ c κs. tt)
     returns-2)

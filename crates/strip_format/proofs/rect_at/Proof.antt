@@ -1,8 +1,8 @@
+use Rattle.strip_format.proofs.Offsets.{ahead}
 use denote.Ref.{now}
 use native.Mathlib.Omega.{arith}
 use mathlib.Core.Path.{sym}
 use Rattle.strip_format.proofs.Past.{rect-past}
-use borrow.Author.Needs.{needs}
 use Rattle.strip_format.proofs.rect_at.Statement.{statement}
 use Rattle.strip_format.proofs.rect_at.Tie as tie
 
@@ -10,11 +10,11 @@ returns : tie.Need-returns
 returns c = sym (rect-past (now (c .before .before .args .s)) _ (omega (arith, c .if1 .taken)))
 
 returns-2 : tie.Need-returns-2
-returns-2 c = cc
+returns-2 c = λ i. record { x0 = c .before .before .before .f64-at .ensures i; y0 = c .before .before .f64-at2 .ensures i; x1 = c .before .f64-at3 .ensures i; y1 = c .f64-at4 .ensures i }
 
 pub rect-at-spec : {M : Type 1} → statement M
 rect-at-spec =
     tie.close
     (tie.spec
-    returns (λ c κs. search needs) (λ c. search needs) (λ c κs. search needs) (λ c. search needs) (λ c κs. search needs)
-    (λ c. search needs) (λ c κs. search needs) returns-2)
+    returns (λ c κs. tt) (λ c. ahead 8 tt (c .before .if1 .left) (c .before .before .before .good .0 .1)) (λ c κs. tt) (λ c. ahead 16 tt (c .before .before .if1 .left) (c .before .before .before .before .good .0 .1)) (λ c κs. tt)
+    (λ c. ahead 24 tt (c .before .before .before .if1 .left) (c .before .before .before .before .before .good .0 .1)) (λ c κs. tt) returns-2)
