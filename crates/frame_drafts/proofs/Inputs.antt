@@ -5,6 +5,8 @@ use mathlib.Core.List.{List, [], _∷_}
 use Prim.Native.Nat.{ℕ, _+_, _*_, _≤_, _<_, _^_}
 use native.Mathlib.Omega.{arith}
 use lib.Dec.{leb, ltb, eqb}
+use mir.Syntax.{w64}
+use mir.Val.{Fits}
 use lib.ListN.{length}
 use lib.Ieee.{Float, binary64, ofBits, ofInt}
 use lib.Ieee.Fits.{and-l, and-r}
@@ -54,8 +56,15 @@ module _ (s : List ℕ) (w h b : ℕ) (z y : Space) (glyphs : List ℕ) (R G W :
   next-refused n m q rs gs ws = rw (sym (sym q ∙ a)) (refl, tt)
 
   module _ (old new : Cursor) (q : r ≡ Both old new) where
-    pub next-within : Within old × Within new
+    next-within : Within old × Within new
     next-within = both-within s r a old new q
+
+    -- so the counts of both can be added
+    pub next-sums : Fits w64 (old .commands + new .commands) × (Fits w64 (old .glyphs + new .glyphs) × Fits w64 (old .clips + new .clips))
+    next-sums =
+        let o = next-within .0 in
+        let n = next-within .1 in
+        (record { fits = omega (arith, o .commands, n .commands) }, (record { fits = omega (arith, o .glyphs, n .glyphs) }, record { fits = omega (arith, o .clips, n .clips) }))
 
     items : Items
     items = record { commands = old .commands + new .commands; glyphs = old .glyphs + new .glyphs; clips = old .clips + new .clips }

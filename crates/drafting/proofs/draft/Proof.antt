@@ -20,6 +20,15 @@ pub draft-spec : {M : Type 1} → statement M
 draft-spec =
     tie.close
     (tie.spec
-    returns (λ c κs. search needs) (λ c. search needs) (λ c. search needs) (λ c. search needs) (λ c. search needs) returns-2
-    (λ c κs. search needs) (λ c. search needs) (λ c. search needs) (λ c. search needs) (λ c. search needs) (λ c. search needs)
-    returns-3 (λ c. search needs) (λ c. search needs) (λ c. search needs) returns-4)
+    returns (λ c κs. search needs) (λ c. c .match .keys1)
+    (λ c. c .before .before .before .before .before .before .before .before .before .before .schedule .kept .1 .1 .1 .1 .1 .0)
+    (λ c. c .before .before .before .before .before .before .before .before .before .before .schedule .kept .1 .1 .1 .1 .1 .1 .0)
+    (λ c. c .before .before .before .before .before .before .before .before .before .before .schedule .kept .1 .1 .1 .1 .1 .1 .1 .0)
+    returns-2 (λ c κs. search needs) (λ c. c .match .keys2)
+    (λ c. c .before .before .before .before .before .before .before .before .before .before .before .before .before .before .schedule .kept .1 .1 .1 .1 .1 .0)
+    (λ c. c .before .before .before .before .before .before .before .before .before .before .before .before .before .before .schedule .kept .1 .1 .1 .1 .1 .1 .0)
+    (λ c. c .before .before .before .before .before .before .before .before .before .before .before .before .before .before .schedule .kept .1 .1 .1 .1 .1 .1 .1 .0)
+    (λ c. c .before .before .index-draft .kept .1 .1 .1 .1 .1 .1 .1 .1 .1 .0) returns-3
+    (λ c. c .before .before .before .before .before .before .before .before .schedule .kept .1 .1 .1 .1 .1 .0)
+    (λ c. c .before .before .before .before .before .before .before .before .schedule .kept .1 .1 .1 .1 .1 .1 .0)
+    (λ c. c .before .before .before .before .before .before .before .before .schedule .kept .1 .1 .1 .1 .1 .1 .1 .0) returns-4)

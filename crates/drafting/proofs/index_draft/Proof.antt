@@ -19,5 +19,7 @@ index-draft-spec =
     tie.close
     (tie.spec
     (λ c. search needs) (λ c. search needs) (λ c. search needs) (λ c. search needs) (λ c. search needs) (λ c κs. search needs)
-    (λ c. search needs) (λ c. search needs) returns (λ c κs. search needs) (λ c. search needs) (λ c. search needs) returns-2
-    (λ c. search needs) returns-3)
+    (λ c. c .match .keys1) (λ c. c .before .before .before .before .before .before .build .kept .1 .1 .1 .1 .0) returns
+    (λ c κs. search needs) (λ c. c .match .keys2)
+    (λ c. c .before .before .before .before .before .before .before .build .kept .1 .1 .1 .1 .0) returns-2
+    (λ c. c .before .before .before .before .build .kept .1 .1 .1 .1 .0) returns-3)

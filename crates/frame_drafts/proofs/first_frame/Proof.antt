@@ -1,7 +1,6 @@
 use denote.Ref.{now}
 use Rattle.frame_drafts.specs.Scratch.{lent}
 use Rattle.frame_drafts.proofs.Inputs.{header-sizes, header-first, header-no-first}
-use borrow.Author.Needs.{needs}
 use Rattle.frame_drafts.proofs.first_frame.Statement.{statement}
 use Rattle.frame_drafts.proofs.first_frame.Tie as tie
 
@@ -18,6 +17,6 @@ pub first-frame-spec : {M : Type 1} → statement M
 first-frame-spec =
     tie.close
     (tie.spec
-    (λ c κs. search needs) (λ c. search needs) draft-first-requires (λ c. search needs) (λ c. search needs) (λ c. search needs)
-    (λ c. search needs) (λ c. search needs) (λ c. search needs) (λ c. search needs) (λ c. search needs) (λ c. search needs)
-    (λ c. search needs) returns returns-2)
+    (λ c κs. tt) (λ c. c .match .keys1) draft-first-requires (λ c. c .match .keys2) (λ c. c .before .before .before .before .before .before .before .before .before .before .before .before .before .before .before .before .before .before .draft-first .kept .1 .1 .1 .1 .1 .1 .1 .0) (λ c. c .before .before .before .before .before .before .before .before .before .before .before .before .before .before .before .before .before .before .draft-first .kept .1 .1 .1 .1 .1 .1 .1 .1 .0)
+    (λ c. c .before .before .before .before .before .before .before .before .before .before .before .before .before .before .before .before .before .before .draft-first .kept .1 .1 .1 .1 .1 .1 .1 .1 .1 .0) (λ c. c .before .before .before .before .before .before .before .before .before .before .before .before .before .before .before .before .before .before .draft-first .kept .1 .1 .1 .1 .1 .1 .1 .1 .1 .1 .0) (λ c. c .before .before .before .before .before .before .before .before .before .before .before .before .before .before .before .before .before .before .draft-first .kept .1 .1 .1 .1 .1 .1 .1 .1 .1 .1 .1 .1 .0) (λ c. c .before .before .before .before .before .before .before .before .before .before .before .before .before .before .before .before .before .before .draft-first .kept .1 .1 .1 .1 .1 .1 .1 .1 .1 .1 .1 .1 .1 .0) (λ c. c .before .before .before .before .before .before .before .before .before .before .before .before .before .before .before .before .before .before .draft-first .kept .1 .1 .1 .1 .1 .1 .1 .1 .1 .1 .1 .1 .1 .1 .0) (λ c. c .before .before .before .before .before .before .before .before .before .before .before .before .before .before .before .before .before .before .draft-first .kept .1 .1 .1 .1 .1 .1 .1 .1 .1 .1 .1 .1 .1 .1 .1 .0)
+    (λ c. c .before .before .before .before .before .before .before .before .before .before .before .before .before .before .before .before .before .before .draft-first .kept .1 .1 .1 .1 .1 .1 .1 .1 .1 .1 .1 .1 .1 .1 .1 .1 .0) returns returns-2)

@@ -1,6 +1,5 @@
 use denote.Ref.{now}
 use Rattle.frame_drafts.proofs.Judgements.{clips-told, glyphs-over, commands-over}
-use borrow.Author.Needs.{needs}
 use Rattle.frame_drafts.proofs.items_fit.Statement.{statement}
 use Rattle.frame_drafts.proofs.items_fit.Tie as tie
 
@@ -17,4 +16,4 @@ pub items-fit-spec : {M : Type 1} → statement M
 items-fit-spec =
     tie.close
     (tie.spec
-    (λ c κs. search needs) (λ c κs. search needs) returns returns-2 returns-3)
+    (λ c κs. tt) (λ c κs. tt) returns returns-2 returns-3)

@@ -16,5 +16,5 @@ answer-spec =
     (tie.spec
     (λ c. search needs) (λ c. search needs) (λ c. search needs) (λ c. search needs) (λ c. search needs) (λ c. search needs)
     (λ c. search needs) (λ c. search needs) (λ c. search needs) (λ c. search needs) (λ c. search needs) (λ c. search needs)
-    (λ c. search needs) (λ c κs. search needs) (λ c. search needs) print-plan-requires (λ c. search needs) (λ c κs. search needs)
-    (λ c. search needs) (λ c. search needs))
+    (λ c. search needs) (λ c κs. tt) (λ c. c .match .keys1) print-plan-requires (λ c. c .match .keys2) (λ c κs. tt) (λ c. tt)
+    (λ c. tt))

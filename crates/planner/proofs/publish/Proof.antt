@@ -3,7 +3,6 @@ use Rattle.planner.specs.Calls.{rectCount, regionCount, wordCount}
 use native.Mathlib.Omega.{arith}
 use mathlib.Core.Path.{_∙_}
 use denote.Ref.{now}
-use borrow.Author.Needs.{needs}
 use Rattle.planner.proofs.publish.Statement.{statement}
 use Rattle.planner.proofs.publish.Tie as tie
 
@@ -32,5 +31,5 @@ pub publish-spec : {M : Type 1} → statement M
 publish-spec =
     tie.close
     (tie.spec
-    (λ c. search needs) mul-copy-f64 copy-f64-requires mul-copy-u32 copy-u32-requires copy-u32-requires-2 (λ c. search needs)
-    (λ c. search needs) (λ c. search needs) (λ c. search needs) returns returns-2)
+    (λ c. c .match .keys1) mul-copy-f64 copy-f64-requires mul-copy-u32 copy-u32-requires copy-u32-requires-2 (λ c. c .match .keys2)
+    (λ c. c .before .before .before .before .before .before .before .before .before .before .copy-f64 .kept .1 .1 .0) (λ c. c .before .before .before .before .before .before .copy-u32 .kept .1 .1 .0) (λ c. c .before .before .copy-u322 .kept .1 .1 .0) returns returns-2)

@@ -9,4 +9,4 @@ pub rect-room-spec : {M : Type 1} → statement M
 rect-room-spec =
     tie.close
     (tie.spec
-    (λ c κs. search needs) (λ c κs. search needs) (λ c κs. search needs) returns)
+    (λ c κs. tt) (λ c κs. tt) (λ c κs. tt) returns)

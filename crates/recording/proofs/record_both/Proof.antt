@@ -1,5 +1,6 @@
+use mathlib.Core.Path.{_∙_}
+use lib.Dec.{lit≤}
 use Rattle.recording.proofs.Inputs.{both-small, both-new, both-refused}
-use borrow.Author.Needs.{needs}
 use Rattle.recording.proofs.record_both.Statement.{statement}
 use Rattle.recording.proofs.record_both.Tie as tie
 
@@ -16,6 +17,14 @@ pub record-both-spec : {M : Type 1} → statement M
 record-both-spec =
     tie.close
     (tie.spec
-    (λ c κs. search needs) (λ c. search needs) record-new-requires (λ c. search needs) (λ c. search needs) (λ c. search needs)
-    (λ c. search needs) (λ c. search needs) returns (λ c. search needs) (λ c. search needs) (λ c. search needs) (λ c. search needs)
+    (λ c κs. (lit≤ tt, lit≤ tt)) (λ c. c .match .keys1) record-new-requires (λ c. c .match .keys2)
+    (λ c. c .before .before .before .before .before .before .before .before .record-new .kept .1 .1 .0 ∙ c .before .before .before .before .before .before .before .before .before .before .before .before .before .before .before .before .before .before .before .before .before .before .before .before .record-strip .kept .1 .1 .1 .1 .0)
+    (λ c. c .before .before .before .before .before .before .before .before .record-new .kept .1 .1 .1 .0 ∙ c .before .before .before .before .before .before .before .before .before .before .before .before .before .before .before .before .before .before .before .before .before .before .before .before .record-strip .kept .1 .1 .1 .1 .1 .0)
+    (λ c. c .before .before .before .before .before .before .before .before .record-new .kept .1 .1 .1 .1 .0 ∙ c .before .before .before .before .before .before .before .before .before .before .before .before .before .before .before .before .before .before .before .before .before .before .before .before .record-strip .kept .1 .1 .1 .1 .1 .1 .0)
+    (λ c. c .before .before .before .before .before .before .before .before .record-new .kept .1 .1 .1 .1 .1 .0 ∙ c .before .before .before .before .before .before .before .before .before .before .before .before .before .before .before .before .before .before .before .before .before .before .before .before .record-strip .kept .1 .1 .1 .1 .1 .1 .1 .0)
+    returns
+    (λ c. c .before .before .before .before .before .before .before .before .before .before .before .record-strip .kept .1 .1 .1 .1 .0)
+    (λ c. c .before .before .before .before .before .before .before .before .before .before .before .record-strip .kept .1 .1 .1 .1 .1 .0)
+    (λ c. c .before .before .before .before .before .before .before .before .before .before .before .record-strip .kept .1 .1 .1 .1 .1 .1 .0)
+    (λ c. c .before .before .before .before .before .before .before .before .before .before .before .record-strip .kept .1 .1 .1 .1 .1 .1 .1 .0)
     returns-2)

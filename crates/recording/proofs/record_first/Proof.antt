@@ -1,5 +1,5 @@
+use lib.Dec.{lit≤}
 use Rattle.recording.proofs.Inputs.{first-end, first-more, first-refused}
-use borrow.Author.Needs.{needs}
 use Rattle.recording.proofs.record_first.Statement.{statement}
 use Rattle.recording.proofs.record_first.Tie as tie
 
@@ -16,6 +16,19 @@ pub record-first-spec : {M : Type 1} → statement M
 record-first-spec =
     tie.close
     (tie.spec
-    (λ c κs. search needs) (λ c. search needs) (λ c. search needs) (λ c. search needs) (λ c. search needs) (λ c. search needs) returns
-    (λ c. search needs) (λ c. search needs) (λ c. search needs) (λ c. search needs) (λ c. search needs) returns-2 (λ c. search needs)
-    (λ c. search needs) (λ c. search needs) (λ c. search needs) returns-3)
+    (λ c κs. (lit≤ tt, lit≤ tt)) (λ c. c .match .keys1)
+    (λ c. c .before .before .before .before .before .before .before .before .before .before .before .before .record-strip .kept .1 .1 .1 .1 .0)
+    (λ c. c .before .before .before .before .before .before .before .before .before .before .before .before .record-strip .kept .1 .1 .1 .1 .1 .0)
+    (λ c. c .before .before .before .before .before .before .before .before .before .before .before .before .record-strip .kept .1 .1 .1 .1 .1 .1 .0)
+    (λ c. c .before .before .before .before .before .before .before .before .before .before .before .before .record-strip .kept .1 .1 .1 .1 .1 .1 .1 .0)
+    returns (λ c. c .match .keys2)
+    (λ c. c .before .before .before .before .before .before .before .before .before .before .before .before .record-strip .kept .1 .1 .1 .1 .0)
+    (λ c. c .before .before .before .before .before .before .before .before .before .before .before .before .record-strip .kept .1 .1 .1 .1 .1 .0)
+    (λ c. c .before .before .before .before .before .before .before .before .before .before .before .before .record-strip .kept .1 .1 .1 .1 .1 .1 .0)
+    (λ c. c .before .before .before .before .before .before .before .before .before .before .before .before .record-strip .kept .1 .1 .1 .1 .1 .1 .1 .0)
+    returns-2
+    (λ c. c .before .before .before .before .before .before .before .before .before .before .before .record-strip .kept .1 .1 .1 .1 .0)
+    (λ c. c .before .before .before .before .before .before .before .before .before .before .before .record-strip .kept .1 .1 .1 .1 .1 .0)
+    (λ c. c .before .before .before .before .before .before .before .before .before .before .before .record-strip .kept .1 .1 .1 .1 .1 .1 .0)
+    (λ c. c .before .before .before .before .before .before .before .before .before .before .before .record-strip .kept .1 .1 .1 .1 .1 .1 .1 .0)
+    returns-3)

@@ -1,5 +1,4 @@
 use Rattle.recording.proofs.Inputs.{new-end, new-more, new-refused}
-use borrow.Author.Needs.{needs}
 use Rattle.recording.proofs.record_new.Statement.{statement}
 use Rattle.recording.proofs.record_new.Tie as tie
 
@@ -16,6 +15,19 @@ pub record-new-spec : {M : Type 1} → statement M
 record-new-spec =
     tie.close
     (tie.spec
-    (λ c κs. search needs) (λ c. search needs) (λ c. search needs) (λ c. search needs) (λ c. search needs) (λ c. search needs) returns
-    (λ c. search needs) (λ c. search needs) (λ c. search needs) (λ c. search needs) (λ c. search needs) returns-2 (λ c. search needs)
-    (λ c. search needs) (λ c. search needs) (λ c. search needs) returns-3)
+    (λ c κs. c .before .before .before .before .before .before .before .before .before .pre) (λ c. c .match .keys1)
+    (λ c. c .before .before .before .before .before .before .before .before .before .before .before .before .record-strip .kept .1 .1 .1 .1 .0)
+    (λ c. c .before .before .before .before .before .before .before .before .before .before .before .before .record-strip .kept .1 .1 .1 .1 .1 .0)
+    (λ c. c .before .before .before .before .before .before .before .before .before .before .before .before .record-strip .kept .1 .1 .1 .1 .1 .1 .0)
+    (λ c. c .before .before .before .before .before .before .before .before .before .before .before .before .record-strip .kept .1 .1 .1 .1 .1 .1 .1 .0)
+    returns (λ c. c .match .keys2)
+    (λ c. c .before .before .before .before .before .before .before .before .before .before .before .before .record-strip .kept .1 .1 .1 .1 .0)
+    (λ c. c .before .before .before .before .before .before .before .before .before .before .before .before .record-strip .kept .1 .1 .1 .1 .1 .0)
+    (λ c. c .before .before .before .before .before .before .before .before .before .before .before .before .record-strip .kept .1 .1 .1 .1 .1 .1 .0)
+    (λ c. c .before .before .before .before .before .before .before .before .before .before .before .before .record-strip .kept .1 .1 .1 .1 .1 .1 .1 .0)
+    returns-2
+    (λ c. c .before .before .before .before .before .before .before .before .before .before .before .record-strip .kept .1 .1 .1 .1 .0)
+    (λ c. c .before .before .before .before .before .before .before .before .before .before .before .record-strip .kept .1 .1 .1 .1 .1 .0)
+    (λ c. c .before .before .before .before .before .before .before .before .before .before .before .record-strip .kept .1 .1 .1 .1 .1 .1 .0)
+    (λ c. c .before .before .before .before .before .before .before .before .before .before .before .record-strip .kept .1 .1 .1 .1 .1 .1 .1 .0)
+    returns-3)

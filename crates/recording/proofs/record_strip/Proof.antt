@@ -1,5 +1,4 @@
 use lib.ListN.{length}
-use borrow.Author.Needs.{needs}
 use Prim.Native.Nat.{_-_}
 use native.Mathlib.Omega.{arith}
 use Rattle.recording.specs.Recorded.{space}
@@ -82,8 +81,7 @@ pub record-strip-spec : {M : Type 1} → statement M
 record-strip-spec =
     tie.close
     (tie.spec
-    Inv-loop μ-loop (λ c κs. search needs) loop-holds (λ c κs. search needs) (λ c. search needs) loop-less loop-again
-    (λ c. search needs) push-clip-requires loop-less-2 loop-again-2 (λ c. search needs) (λ c κs. search needs) loop-less-3
-    loop-again-3 (λ c. search needs) (λ c κs. search needs) push-requires loop-less-4 loop-again-4 (λ c. search needs) same-length
-    same-length-2 same-length-3 same-length-4 returns (λ c. search needs) same-length-5 same-length-6 same-length-7 same-length-8
-    returns-2)
+    Inv-loop μ-loop (λ c κs. tt) loop-holds (λ c κs. tt) (λ c. c .match .keys1) loop-less loop-again (λ c. c .match .keys2)
+    push-clip-requires loop-less-2 loop-again-2 (λ c. c .match .keys3) (λ c κs. tt) loop-less-3 loop-again-3 (λ c. c .match .keys4)
+    (λ c κs. tt) push-requires loop-less-4 loop-again-4 (λ c. c .match .keys5) same-length same-length-2 same-length-3 same-length-4
+    returns (λ c. c .match .keys6) same-length-5 same-length-6 same-length-7 same-length-8 returns-2)

@@ -1,6 +1,5 @@
 -- `runtime::changed_bounds` meets its contract: what is decoded stands for the commands of the list. Assumes nothing.
 use native.Mathlib.Omega.{arith}
-use borrow.Author.Needs.{needs}
 use Rattle.rect_list.proofs.Appends.{added-as}
 use Rattle.runtime.proofs.Pairs.{room-at, pair-of, changed-are}
 use Rattle.runtime.proofs.changed_bounds.Statement.{statement}
@@ -22,4 +21,5 @@ pub changed-bounds-spec : {M : Type 1} → statement M
 changed-bounds-spec =
     tie.close
     (tie.spec
-    placed-at-requires placed-at-requires-2 changed-placed-requires (λ c. search needs) returns)
+    placed-at-requires placed-at-requires-2 changed-placed-requires (λ c. c .before .before .changed-placed .kept .1 .1 .1 .1 .1 .0)
+    returns)

@@ -25,6 +25,8 @@ pub changed-placed-spec : {M : Type 1} → statement M
 changed-placed-spec =
     tie.close
     (tie.spec
-    (λ c κs. search needs) returns (λ c κs. search needs) (λ c κs. search needs) (λ c. search needs) returns-2 (λ c κs. search needs)
-    changed-glyph-bounds-requires (λ c. search needs) returns-3 (λ c κs. search needs) (λ c κs. search needs) (λ c. search needs)
-    returns-4)
+    (λ c κs. c .before .before .before .before .before .before .before .before .pre .0) returns (λ c κs. tt) (λ c κs. search needs)
+    (λ c. c .before .before .rect-symmetric-difference .kept .1 .1 .0) returns-2
+    (λ c κs. record { used = _; chained = c .before .before .before .before .before .before .before .before .before .before .before .before .pre .0 .clips .chained; one = c .before .before .before .before .before .before .before .before .before .before .before .before .pre .0 .old .clip; other = c .before .before .before .before .before .before .before .before .before .before .before .before .pre .0 .new .clip })
+    changed-glyph-bounds-requires (λ c. c .before .before .changed-glyph-bounds .kept .1 .1 .1 .1 .0) returns-3 (λ c κs. tt)
+    (λ c κs. search needs) (λ c. c .before .before .append .kept .0) returns-4)

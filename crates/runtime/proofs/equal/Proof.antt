@@ -1,5 +1,4 @@
 -- `runtime::equal` meets its contract: the first test that fails decides. Assumes nothing.
-use borrow.Author.Needs.{needs}
 use Rattle.runtime.proofs.Pairs.{equal-on, equal-glyphs-off, equal-off}
 use Rattle.runtime.proofs.equal.Statement.{statement}
 use Rattle.runtime.proofs.equal.Tie as tie
@@ -17,4 +16,7 @@ pub equal-spec : {M : Type 1} → statement M
 equal-spec =
     tie.close
     (tie.spec
-    (λ c κs. search needs) (λ c κs. search needs) (λ c κs. search needs) returns returns-2 returns-3)
+    (λ c κs. tt)
+    (λ c κs. (c .before .before .before .before .before .before .before .pre .old .glyphs, c .before .before .before .before .before .before .before .pre .new .glyphs))
+    (λ c κs. record { used = _; chained = c .before .before .before .before .before .before .before .before .before .pre .clips .chained; one = c .before .before .before .before .before .before .before .before .before .pre .old .clip; other = c .before .before .before .before .before .before .before .before .before .pre .new .clip })
+    returns returns-2 returns-3)

@@ -1,3 +1,4 @@
+use mathlib.Core.Path.{_∙_}
 -- `runtime::rect_symmetric_difference` meets its contract: one difference, and then the other. Assumes nothing.
 use native.Mathlib.Omega.{arith}
 use borrow.Author.Needs.{needs}
@@ -14,4 +15,6 @@ pub rect-symmetric-difference-spec : {M : Type 1} → statement M
 rect-symmetric-difference-spec =
     tie.close
     (tie.spec
-    (λ c κs. search needs) (λ c κs. search needs) (λ c κs. search needs) (λ c κs. search needs) (λ c. search needs) returns)
+    (λ c κs. tt) (λ c κs. search needs) (λ c κs. tt) (λ c κs. search needs)
+    (λ c. c .before .before .append-parts2 .kept .0 ∙ c .before .before .before .before .before .before .before .append-parts .kept .0)
+    returns)

@@ -1,6 +1,5 @@
 -- `runtime::runs_alike` meets its contract. Assumes nothing.
 use mathlib.Core.Path.{sym, _∙_}
-use borrow.Author.Needs.{needs}
 use Rattle.lists.proofs.Bools.{and-on, and-off}
 use Rattle.runtime.proofs.runs_alike.Statement.{statement}
 use Rattle.runtime.proofs.runs_alike.Tie as tie
@@ -15,4 +14,4 @@ pub runs-alike-spec : {M : Type 1} → statement M
 runs-alike-spec =
     tie.close
     (tie.spec
-    (λ c κs. search needs) (λ c κs. search needs) returns returns-2)
+    (λ c κs. tt) (λ c κs. c .before .before .before .before .before .before .pre) returns returns-2)

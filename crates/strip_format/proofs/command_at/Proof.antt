@@ -50,6 +50,6 @@ pub command-at-spec : {M : Type 1} → statement M
 command-at-spec =
     tie.close
     (tie.spec
-    (λ c κs. search needs) returns (λ c. search needs) (λ c. search needs) (λ c κs. search needs) (λ c κs. search needs) returns-2
-    fill-at-requires stroke-path-at-requires run-at-requires scene-at-requires (λ c κs. search needs) returns-3 returns-4 returns-5
+    (λ c κs. tt) returns (λ c. c .before .if1 .left) (λ c. search needs) (λ c κs. tt) (λ c κs. tt) returns-2
+    fill-at-requires stroke-path-at-requires run-at-requires scene-at-requires (λ c κs. tt) returns-3 returns-4 returns-5
     returns-6 returns-7)

@@ -1,5 +1,5 @@
+use Rattle.strip_format.proofs.Offsets.{ahead}
 use Rattle.strip_format.proofs.Past.{glyph-past}
-use borrow.Author.Needs.{needs}
 use Rattle.strip_format.proofs.glyph_at.Statement.{statement}
 use Rattle.strip_format.proofs.glyph_at.Tie as tie
 
@@ -7,11 +7,11 @@ returns : tie.Need-returns
 returns c = glyph-past _ _ (c .before .if1 .taken) _ (c .rect-at .ensures)
 
 returns-2 : tie.Need-returns-2
-returns-2 c = cc
+returns-2 c = λ i. record { id = c .before .before .before .u32-at .ensures .0 i; x = c .before .before .f32-at .ensures i; y = c .before .f32-at2 .ensures i; bounds = c .rect-at2 .ensures i }
 
 pub glyph-at-spec : {M : Type 1} → statement M
 glyph-at-spec =
     tie.close
     (tie.spec
-    (λ c κs. search needs) returns (λ c. search needs) (λ c κs. search needs) (λ c. search needs) (λ c. search needs)
-    (λ c κs. search needs) (λ c. search needs) (λ c κs. search needs) (λ c. search needs) (λ c κs. search needs) returns-2)
+    (λ c κs. tt) returns (λ c. ahead 1 tt (c .if1 .left) (c .before .before .good .0 .1)) (λ c κs. tt) (λ c. record { fits = c .u32-at .ensures .1 }) (λ c. ahead 5 tt (c .before .if1 .left) (c .before .before .before .good .0 .1))
+    (λ c κs. tt) (λ c. ahead 9 tt (c .before .before .if1 .left) (c .before .before .before .before .good .0 .1)) (λ c κs. tt) (λ c. ahead 13 tt (c .before .before .before .if1 .left) (c .before .before .before .before .before .good .0 .1)) (λ c κs. tt) returns-2)
