@@ -1,7 +1,6 @@
 use Rattle.affine.proofs.Answers.{bound-yes, bound-no-1, bound-no-2, bound-no-3, bound-no-4}
 use Rattle.affine.specs.declared.Transformed.the-variants.{Finite}
 use mathlib.Core.Path.{sym, ap, _∙_}
-use borrow.Author.Needs.{needs}
 use Rattle.affine.proofs.bound_finite.Statement.{statement}
 use Rattle.affine.proofs.bound_finite.Tie as tie
 
@@ -24,5 +23,5 @@ pub bound-finite-spec : {M : Type 1} → statement M
 bound-finite-spec =
     tie.close
     (tie.spec
-    (λ c κs. search needs) (λ c κs. search needs) (λ c κs. search needs) (λ c κs. search needs) (λ c κs. search needs) returns
+    (λ c κs. tt) (λ c κs. tt) (λ c κs. tt) (λ c κs. tt) (λ c κs. tt) returns
     returns-2 returns-3 returns-4 returns-5)

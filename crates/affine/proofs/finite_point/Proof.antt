@@ -1,6 +1,5 @@
 use Rattle.affine.specs.Affines.{finitePoint}
 use mathlib.Core.Path.{sym, _∙_}
-use borrow.Author.Needs.{needs}
 use Rattle.affine.proofs.finite_point.Statement.{statement}
 use Rattle.affine.proofs.finite_point.Tie as tie
 
@@ -16,4 +15,4 @@ pub finite-point-spec : {M : Type 1} → statement M
 finite-point-spec =
     tie.close
     (tie.spec
-    (λ c κs. search needs) (λ c κs. search needs) returns returns-2)
+    (λ c κs. tt) (λ c κs. tt) returns returns-2)

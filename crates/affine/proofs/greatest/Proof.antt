@@ -1,4 +1,3 @@
-use borrow.Author.Needs.{needs}
 use Rattle.affine.proofs.greatest.Statement.{statement}
 use Rattle.affine.proofs.greatest.Tie as tie
 
@@ -9,4 +8,4 @@ pub greatest-spec : {M : Type 1} → statement M
 greatest-spec =
     tie.close
     (tie.spec
-    (λ c κs. search needs) (λ c κs. search needs) (λ c κs. search needs) returns)
+    (λ c κs. tt) (λ c κs. tt) (λ c κs. tt) returns)

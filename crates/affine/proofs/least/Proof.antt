@@ -1,4 +1,3 @@
-use borrow.Author.Needs.{needs}
 use Rattle.affine.proofs.least.Statement.{statement}
 use Rattle.affine.proofs.least.Tie as tie
 
@@ -9,4 +8,4 @@ pub least-spec : {M : Type 1} → statement M
 least-spec =
     tie.close
     (tie.spec
-    (λ c κs. search needs) (λ c κs. search needs) (λ c κs. search needs) returns)
+    (λ c κs. tt) (λ c κs. tt) (λ c κs. tt) returns)

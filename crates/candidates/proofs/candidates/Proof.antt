@@ -29,5 +29,5 @@ pub candidates-spec : {M : Type 1} → statement M
 candidates-spec =
     tie.close
     (tie.spec
-    (λ c κs. search needs) (λ c. search needs) mul-result sub-result part-result-start part-result-end (λ c. search needs)
+    (λ c κs. tt) (λ c. search needs) mul-result sub-result part-result-start part-result-end (λ c. search needs)
     (λ c. search needs) (λ c. search needs) (λ c. search needs) returns returns-2)

@@ -5,7 +5,6 @@ use mathlib.Core.Path.{sym, _∙_}
 use Rattle.candidates.proofs.Parts.{good-size}
 use Rattle.candidates.specs.Table.{badSizes, find}
 use native.Mathlib.Omega.{arith}
-use borrow.Author.Needs.{needs}
 use Rattle.candidates.proofs.find.Statement.{statement}
 use Rattle.candidates.proofs.find.Tie as tie
 
@@ -57,5 +56,5 @@ pub find-spec : {M : Type 1} → statement M
 find-spec =
     tie.close
     (tie.spec
-    (λ c κs. search needs) returns (λ c κs. search needs) returns-2 (λ c κs. search needs) returns-3 sub-row-count add-row-count
+    (λ c κs. tt) returns (λ c κs. tt) returns-2 (λ c κs. tt) returns-3 sub-row-count add-row-count
     div-row-count cast-row-count div-find-row cast-find-row find-row-requires returns-4)

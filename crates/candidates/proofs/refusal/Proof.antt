@@ -15,4 +15,4 @@ pub refusal-spec : {M : Type 1} → statement M
 refusal-spec =
     tie.close
     (tie.spec
-    (λ c κs. search needs) (λ c. search needs) (λ c. search needs) returns returns-2)
+    (λ c κs. tt) (λ c. search needs) (λ c. search needs) returns returns-2)

@@ -16,4 +16,4 @@ pub all-with-spec : {M : Type 1} → statement M
 all-with-spec =
     tie.close
     (tie.spec
-    returns (λ c κs. search needs) (λ c κs. search needs) returns-2)
+    returns (λ c κs. search needs) (λ c κs. tt) returns-2)

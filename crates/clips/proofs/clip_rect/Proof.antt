@@ -16,4 +16,4 @@ pub clip-rect-spec : {M : Type 1} → statement M
 clip-rect-spec =
     tie.close
     (tie.spec
-    returns (λ c κs. search needs) (λ c κs. search needs) returns-2)
+    returns (λ c κs. search needs) (λ c κs. tt) returns-2)

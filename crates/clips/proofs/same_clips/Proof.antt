@@ -63,5 +63,5 @@ same-clips-spec =
     tie.close
     (tie.spec
     Inv-walk μ-walk walk-holds sub-rect-at mul-rect-at (λ c κs. search needs) sub-rect-at-2 mul-rect-at-2 (λ c κs. search needs)
-    (λ c κs. search needs) sub-x mul-x shared-slice-read-x sub-y mul-y shared-slice-read-y walk-less walk-again returns returns-2
+    (λ c κs. tt) sub-x mul-x shared-slice-read-x sub-y mul-y shared-slice-read-y walk-less walk-again returns returns-2
     returns-3)

@@ -18,4 +18,4 @@ pub kind-at-spec : {M : Type 1} → statement M
 kind-at-spec =
     tie.close
     (tie.spec
-    returns (λ c. search needs) (λ c. search needs) (λ c κs. search needs) returns-2 returns-3)
+    returns (λ c. search needs) (λ c. search needs) (λ c κs. tt) returns-2 returns-3)

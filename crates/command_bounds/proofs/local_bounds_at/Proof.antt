@@ -2,7 +2,6 @@ use native.Mathlib.Omega.{arith}
 use mathlib.Core.Path.{sym, ap, _∙_}
 use Rattle.commands.specs.Bounds.{localWith}
 use Rattle.command_bounds.proofs.Standing.{is-fill, is-stroke, is-run, is-scene, is-other}
-use borrow.Author.Needs.{needs}
 use Rattle.command_bounds.proofs.local_bounds_at.Statement.{statement}
 use Rattle.command_bounds.proofs.local_bounds_at.Tie as tie
 
@@ -37,5 +36,5 @@ pub local-bounds-at-spec : {M : Type 1} → statement M
 local-bounds-at-spec =
     tie.close
     (tie.spec
-    (λ c κs. search needs) add-rect-at (λ c κs. search needs) stroked-at-requires run-at-requires add-rect-at-2 (λ c κs. search needs)
+    (λ c κs. tt) add-rect-at (λ c κs. tt) stroked-at-requires run-at-requires add-rect-at-2 (λ c κs. tt)
     returns returns-2 returns-3 returns-4 returns-5)

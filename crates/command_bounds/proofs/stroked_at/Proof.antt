@@ -10,5 +10,5 @@ pub stroked-at-spec : {M : Type 1} → statement M
 stroked-at-spec =
     tie.close
     (tie.spec
-    (λ c. search needs) (λ c κs. search needs) (λ c. search needs) (λ c κs. search needs) (λ c κs. search needs)
-    (λ c κs. search needs) returns)
+    (λ c. search needs) (λ c κs. tt) (λ c. search needs) (λ c κs. tt) (λ c κs. tt)
+    (λ c κs. tt) returns)

@@ -2,7 +2,6 @@ use native.Mathlib.Omega.{arith}
 use mathlib.Core.Path.{sym, ap, _∙_}
 use Rattle.commands.specs.Bounds.{transformOf}
 use Rattle.command_bounds.proofs.Standing.{is-fill, is-stroke, is-run, is-scene, is-other}
-use borrow.Author.Needs.{needs}
 use Rattle.command_bounds.proofs.transform_at.Statement.{statement}
 use Rattle.command_bounds.proofs.transform_at.Tie as tie
 
@@ -37,5 +36,5 @@ pub transform-at-spec : {M : Type 1} → statement M
 transform-at-spec =
     tie.close
     (tie.spec
-    (λ c κs. search needs) add-affine-at (λ c κs. search needs) add-affine-at-2 (λ c κs. search needs) add-affine-at-3
-    (λ c κs. search needs) add-affine-at-4 (λ c κs. search needs) returns returns-2 returns-3 returns-4 returns-5)
+    (λ c κs. tt) add-affine-at (λ c κs. tt) add-affine-at-2 (λ c κs. tt) add-affine-at-3
+    (λ c κs. tt) add-affine-at-4 (λ c κs. tt) returns returns-2 returns-3 returns-4 returns-5)

@@ -1,4 +1,3 @@
-use borrow.Author.Needs.{needs}
 use Rattle.command_bounds.proofs.try_bounds_at.Statement.{statement}
 use Rattle.command_bounds.proofs.try_bounds_at.Tie as tie
 
@@ -9,4 +8,4 @@ pub try-bounds-at-spec : {M : Type 1} → statement M
 try-bounds-at-spec =
     tie.close
     (tie.spec
-    (λ c κs. search needs) (λ c κs. search needs) (λ c κs. search needs) returns)
+    (λ c κs. tt) (λ c κs. tt) (λ c κs. tt) returns)

@@ -9,5 +9,5 @@ pub join-scale-spec : {M : Type 1} → statement M
 join-scale-spec =
     tie.close
     (tie.spec
-    (λ c. search needs) (λ c. search needs) (λ c κs. search needs) (λ c. search needs) (λ c. search needs) returns-2
+    (λ c. search needs) (λ c. search needs) (λ c κs. tt) (λ c. search needs) (λ c. search needs) returns-2
     (λ c. search needs))

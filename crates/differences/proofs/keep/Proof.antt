@@ -1,6 +1,5 @@
 use mathlib.Core.Path.{sym, _∙_}
 use Rattle.differences.specs.Differences.{keep}
-use borrow.Author.Needs.{needs}
 use Rattle.differences.proofs.keep.Statement.{statement}
 use Rattle.differences.proofs.keep.Tie as tie
 
@@ -16,4 +15,4 @@ pub keep-spec : {M : Type 1} → statement M
 keep-spec =
     tie.close
     (tie.spec
-    (λ c κs. search needs) returns returns-2)
+    (λ c κs. tt) returns returns-2)

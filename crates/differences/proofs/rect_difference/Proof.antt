@@ -1,6 +1,5 @@
 use mathlib.Core.Path.{sym, _∙_}
 use Rattle.differences.proofs.Answers.{parted, apart}
-use borrow.Author.Needs.{needs}
 use Rattle.differences.proofs.rect_difference.Statement.{statement}
 use Rattle.differences.proofs.rect_difference.Tie as tie
 
@@ -14,4 +13,4 @@ pub rect-difference-spec : {M : Type 1} → statement M
 rect-difference-spec =
     tie.close
     (tie.spec
-    (λ c κs. search needs) (λ c κs. search needs) (λ c κs. search needs) returns (λ c κs. search needs) returns-2)
+    (λ c κs. tt) (λ c κs. tt) (λ c κs. tt) returns (λ c κs. tt) returns-2)

@@ -12,4 +12,4 @@ pub window-glyph-bounds-spec : {M : Type 1} → statement M
 window-glyph-bounds-spec =
     tie.close
     (tie.spec
-    (λ c κs. search needs) (λ c κs. search needs) returns)
+    (λ c κs. tt) (λ c κs. search needs) returns)

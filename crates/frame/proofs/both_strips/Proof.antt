@@ -11,4 +11,4 @@ returns-2 : tie.Need-returns-2
 returns-2 c = both-refused _ _ _ (sym (c .before .before .before .read-strip .ensures) ∙ c .before .number .given .1)
 
 pub both-strips-spec : {M : Type 1} → statement M
-both-strips-spec = tie.close (tie.spec (λ c κs. search needs) (λ c. search needs) (λ c κs. search needs) (λ c. search needs) returns returns-2)
+both-strips-spec = tie.close (tie.spec (λ c κs. tt) (λ c. search needs) (λ c κs. tt) (λ c. search needs) returns returns-2)

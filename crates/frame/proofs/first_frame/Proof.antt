@@ -14,4 +14,4 @@ returns-3 : tie.Need-returns-3
 returns-3 c = first-refused _ _ _ (sym (c .before .before .before .read-strip .ensures) ∙ c .before .number .given .1)
 
 pub first-frame-spec : {M : Type 1} → statement M
-first-frame-spec = tie.close (tie.spec (λ c κs. search needs) (λ c. search needs) returns (λ c. search needs) returns-2 returns-3)
+first-frame-spec = tie.close (tie.spec (λ c κs. tt) (λ c. search needs) returns (λ c. search needs) returns-2 returns-3)

@@ -15,4 +15,4 @@ returns-3 : tie.Need-returns-3
 returns-3 c = new-refused (now (c .before .before .before .before .before .args .s)) (c .before .before .before .before .before .args .old) _ _ (sym (c .before .before .before .read-behind .ensures) ∙ c .before .number .given .1)
 
 pub new-strip-spec : {M : Type 1} → statement M
-new-strip-spec = tie.close (tie.spec (λ c κs. search needs) (λ c. search needs) returns (λ c. search needs) returns-2 returns-3)
+new-strip-spec = tie.close (tie.spec (λ c κs. tt) (λ c. search needs) returns (λ c. search needs) returns-2 returns-3)

@@ -31,5 +31,5 @@ pub read-header-spec : {M : Type 1} → statement M
 read-header-spec =
     tie.close
     (tie.spec
-    returns (λ c κs. search needs) (λ c κs. search needs) (λ c κs. search needs) (λ c κs. search needs) (λ c κs. search needs)
-    (λ c κs. search needs) (λ c. search needs) (λ c. search needs) (λ c. search needs) returns-2 returns-3 returns-4 returns-5)
+    returns (λ c κs. tt) (λ c κs. tt) (λ c κs. tt) (λ c κs. tt) (λ c κs. tt)
+    (λ c κs. tt) (λ c. search needs) (λ c. search needs) (λ c. search needs) returns-2 returns-3 returns-4 returns-5)

@@ -18,4 +18,4 @@ pub spans-spec : {M : Type 1} → statement M
 spans-spec =
     tie.close
     (tie.spec
-    (λ c. search needs) (λ c κs. search needs) (λ c κs. search needs) returns returns-2)
+    (λ c. search needs) (λ c κs. tt) (λ c κs. tt) returns returns-2)

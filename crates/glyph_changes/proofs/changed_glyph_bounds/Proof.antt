@@ -97,6 +97,6 @@ changed-glyph-bounds-spec =
     tie.close
     (tie.spec
     Inv-loop μ-loop cast-i cast-j loop-holds append-glyph-bounds-requires same-length returns add-p1 add-q1 glyph-at-requires
-    glyph-at-requires-2 (λ c κs. search needs) sub-i sub-j loop-less loop-again window-bounds-requires window-bounds-requires-2
-    (λ c κs. search needs) append-requires sub-i-2 sub-j-2 loop-less-2 loop-again-2 append-glyph-bounds-requires-2 same-length-2
+    glyph-at-requires-2 (λ c κs. tt) sub-i sub-j loop-less loop-again window-bounds-requires window-bounds-requires-2
+    (λ c κs. tt) append-requires sub-i-2 sub-j-2 loop-less-2 loop-again-2 append-glyph-bounds-requires-2 same-length-2
     returns-2)

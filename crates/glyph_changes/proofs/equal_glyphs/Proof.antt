@@ -1,7 +1,6 @@
 -- `glyph_changes::equal_glyphs` meets its contract: what is left of both runs decides as the whole does. Assumes nothing.
 use mathlib.Core.Path.{_≡_, refl, sym, _∙_}
 use native.Mathlib.Omega.{arith}
-use borrow.Author.Needs.{needs}
 use Rattle.operand_equality.specs.Operands.{equalGlyph, equalGlyphs}
 use Rattle.strip_format.specs.Format.{glyphsFrom}
 use Rattle.glyph_changes.proofs.Places.{equal-end, equal-short, equal-next, equal-stop, told-by}
@@ -61,5 +60,5 @@ pub equal-glyphs-spec : {M : Type 1} → statement M
 equal-glyphs-spec =
     tie.close
     (tie.spec
-    Inv-loop μ-loop cast-i cast-j loop-holds returns glyph-at-requires glyph-at-requires-2 (λ c κs. search needs) add-p add-q sub-i
+    Inv-loop μ-loop cast-i cast-j loop-holds returns glyph-at-requires glyph-at-requires-2 (λ c κs. tt) add-p add-q sub-i
     sub-j loop-less loop-again returns-2 returns-3)

@@ -9,4 +9,4 @@ pub f32-at-spec : {M : Type 1} → statement M
 f32-at-spec =
     tie.close
     (tie.spec
-    (λ c κs. search needs) (λ c. search needs) (λ c κs. search needs) returns)
+    (λ c κs. tt) (λ c. search needs) (λ c κs. tt) returns)

@@ -1,4 +1,3 @@
-use borrow.Author.Needs.{needs}
 use Rattle.little_endian.proofs.f64_at.Statement.{statement}
 use Rattle.little_endian.proofs.f64_at.Tie as tie
 
@@ -9,4 +8,4 @@ pub f64-at-spec : {M : Type 1} → statement M
 f64-at-spec =
     tie.close
     (tie.spec
-    (λ c κs. search needs) (λ c κs. search needs) returns)
+    (λ c κs. tt) (λ c κs. tt) returns)

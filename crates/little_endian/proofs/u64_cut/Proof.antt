@@ -11,4 +11,4 @@ pub u64-cut-spec : {M : Type 1} → statement M
 u64-cut-spec =
     tie.close
     (tie.spec
-    (λ c κs. search needs) (λ c. search needs) (λ c κs. search needs) (λ c. search needs) (λ c. search needs) returns)
+    (λ c κs. tt) (λ c. search needs) (λ c κs. tt) (λ c. search needs) (λ c. search needs) returns)

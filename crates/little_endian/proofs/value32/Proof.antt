@@ -4,7 +4,6 @@ use Rattle.lists.proofs.Picks.{pick-true, pick-false}
 use Rattle.lists.proofs.Bools.{holds}
 use lib.Ieee.{binary32}
 use mathlib.Core.Path.{sym, _∙_}
-use borrow.Author.Needs.{needs}
 use Rattle.little_endian.proofs.value32.Statement.{statement}
 use Rattle.little_endian.proofs.value32.Tie as tie
 
@@ -23,4 +22,4 @@ pub value32-spec : {M : Type 1} → statement M
 value32-spec =
     tie.close
     (tie.spec
-    (λ c κs. search needs) float-from-bits-result returns returns-2)
+    (λ c κs. tt) float-from-bits-result returns returns-2)

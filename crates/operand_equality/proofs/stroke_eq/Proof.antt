@@ -1,5 +1,4 @@
 use Rattle.operand_equality.specs.Operands.{sameStroke}
-use borrow.Author.Needs.{needs}
 use Rattle.operand_equality.proofs.stroke_eq.Statement.{statement}
 use Rattle.operand_equality.proofs.stroke_eq.Tie as tie
 
@@ -11,5 +10,5 @@ pub stroke-eq-spec : {M : Type 1} → statement M
 stroke-eq-spec =
     tie.close
     (tie.spec
-    (λ c κs. search needs) (λ c κs. search needs) (λ c κs. search needs) (λ c κs. search needs) (λ c κs. search needs)
-    (λ c κs. search needs) (λ c κs. search needs) (λ c κs. search needs) (λ c κs. search needs) returns)
+    (λ c κs. tt) (λ c κs. tt) (λ c κs. tt) (λ c κs. tt) (λ c κs. tt)
+    (λ c κs. tt) (λ c κs. tt) (λ c κs. tt) (λ c κs. tt) returns)

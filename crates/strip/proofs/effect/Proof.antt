@@ -42,5 +42,5 @@ pub effect-spec : {M : Type 1} → statement M
 effect-spec =
     tie.close
     (tie.spec
-    (λ c. search needs) clip-requires (λ c κs. search needs) run-requires glyph-requires (λ c κs. search needs) (λ c κs. search needs)
+    (λ c. search needs) clip-requires (λ c κs. search needs) run-requires glyph-requires (λ c κs. tt) (λ c κs. search needs)
     returns returns-2 returns-3 returns-4 returns-5 returns-6)

@@ -49,6 +49,6 @@ pub read-strip-spec : {M : Type 1} → statement M
 read-strip-spec =
     tie.close
     (tie.spec
-    Inv-loop μ-loop (λ c κs. search needs) loop-holds (λ c κs. search needs) (λ c. search needs) loop-less loop-again
+    Inv-loop μ-loop (λ c κs. tt) loop-holds (λ c κs. tt) (λ c. search needs) loop-less loop-again
     (λ c. search needs) loop-less-2 loop-again-2 (λ c. search needs) loop-less-3 loop-again-3 (λ c. search needs) loop-less-4 loop-again-4
     (λ c. search needs) returns (λ c. search needs) returns-2)

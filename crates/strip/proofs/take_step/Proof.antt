@@ -30,5 +30,5 @@ pub take-step-spec : {M : Type 1} → statement M
 take-step-spec =
     tie.close
     (tie.spec
-    returns (λ c. search needs) returns-2 (λ c κs. search needs) (λ c. search needs) (λ c κs. search needs) returns-3
-    (λ c κs. search needs) effect-requires returns-4 returns-5 returns-6)
+    returns (λ c. search needs) returns-2 (λ c κs. tt) (λ c. search needs) (λ c κs. tt) returns-3
+    (λ c κs. tt) effect-requires returns-4 returns-5 returns-6)

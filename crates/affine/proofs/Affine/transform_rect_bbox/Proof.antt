@@ -1,5 +1,4 @@
 use Rattle.affine.specs.Affines.{transformRectBbox}
-use borrow.Author.Needs.{needs}
 use Rattle.affine.proofs.Affine.transform_rect_bbox.Statement.{statement}
 use Rattle.affine.proofs.Affine.transform_rect_bbox.Tie as tie
 
@@ -11,4 +10,4 @@ pub transform-rect-bbox-spec : {M : Type 1} → statement M
 transform-rect-bbox-spec =
     tie.close
     (tie.spec
-    (λ c κs. search needs) (λ c κs. search needs) (λ c κs. search needs) (λ c κs. search needs) (λ c κs. search needs) returns)
+    (λ c κs. tt) (λ c κs. tt) (λ c κs. tt) (λ c κs. tt) (λ c κs. tt) returns)

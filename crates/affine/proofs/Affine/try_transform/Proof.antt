@@ -1,5 +1,4 @@
 use Rattle.affine.specs.Affines.{tryTransform}
-use borrow.Author.Needs.{needs}
 use Rattle.affine.proofs.Affine.try_transform.Statement.{statement}
 use Rattle.affine.proofs.Affine.try_transform.Tie as tie
 
@@ -11,4 +10,4 @@ pub try-transform-spec : {M : Type 1} → statement M
 try-transform-spec =
     tie.close
     (tie.spec
-    (λ c κs. search needs) (λ c κs. search needs) (λ c κs. search needs) (λ c κs. search needs) (λ c κs. search needs) returns)
+    (λ c κs. tt) (λ c κs. tt) (λ c κs. tt) (λ c κs. tt) (λ c κs. tt) returns)

@@ -22,5 +22,5 @@ pub local-bounds-spec : {M : Type 1} → statement M
 local-bounds-spec =
     tie.close
     (tie.spec
-    (λ c. search needs) (λ c. search needs) (λ c κs. search needs) (λ c κs. search needs) (λ c. search needs) (λ c. search needs)
+    (λ c. search needs) (λ c. search needs) (λ c κs. tt) (λ c κs. tt) (λ c. search needs) (λ c. search needs)
     returns returns-2 returns-3 returns-4 returns-5)

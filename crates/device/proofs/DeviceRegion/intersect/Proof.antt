@@ -17,5 +17,5 @@ pub intersect-spec : {M : Type 1} → statement M
 intersect-spec =
     tie.close
     (tie.spec
-    (λ c κs. search needs) (λ c κs. search needs) (λ c. search needs) (λ c. search needs) (λ c κs. search needs) (λ c. search needs)
-    (λ c. search needs) (λ c κs. search needs) (λ c. search needs) (λ c. search needs) returns returns-2 returns-3)
+    (λ c κs. tt) (λ c κs. tt) (λ c. search needs) (λ c. search needs) (λ c κs. tt) (λ c. search needs)
+    (λ c. search needs) (λ c κs. tt) (λ c. search needs) (λ c. search needs) returns returns-2 returns-3)

@@ -11,5 +11,5 @@ pub union-spec : {M : Type 1} → statement M
 union-spec =
     tie.close
     (tie.spec
-    (λ c κs. search needs) (λ c κs. search needs) (λ c. search needs) (λ c. search needs) (λ c κs. search needs) (λ c. search needs)
-    (λ c. search needs) (λ c κs. search needs) (λ c. search needs) (λ c. search needs) returns)
+    (λ c κs. tt) (λ c κs. tt) (λ c. search needs) (λ c. search needs) (λ c κs. tt) (λ c. search needs)
+    (λ c. search needs) (λ c κs. tt) (λ c. search needs) (λ c. search needs) returns)

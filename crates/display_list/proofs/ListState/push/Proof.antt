@@ -37,6 +37,6 @@ pub push-spec : {M : Type 1} → statement M
 push-spec =
     tie.close
     (tie.spec
-    (λ c. search needs) (λ c κs. search needs) (λ c. search needs) mul-items-2 slice-write-items (λ c. search needs)
+    (λ c. search needs) (λ c κs. tt) (λ c. search needs) mul-items-2 slice-write-items (λ c. search needs)
     (λ c. search needs) mul-items-4 slice-write-items-2 mul-put-rect put-rect-requires (λ c. search needs) (λ c. search needs) returns
     (λ c. search needs) (λ c. search needs) returns-2)

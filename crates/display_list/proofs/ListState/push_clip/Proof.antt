@@ -20,5 +20,5 @@ pub push-clip-spec : {M : Type 1} → statement M
 push-clip-spec =
     tie.close
     (tie.spec
-    (λ c. search needs) (λ c. search needs) (λ c. search needs) (λ c κs. search needs) put-clip-requires (λ c. search needs)
+    (λ c. search needs) (λ c. search needs) (λ c. search needs) (λ c κs. tt) put-clip-requires (λ c. search needs)
     (λ c. search needs) returns (λ c. search needs) (λ c. search needs) returns-2)

@@ -16,4 +16,4 @@ pub clip-spec : {M : Type 1} → statement M
 clip-spec =
     tie.close
     (tie.spec
-    returns returns-2 (λ c. search needs) (λ c κs. search needs) (λ c. search needs) (λ c. search needs) (λ c. search needs) returns-3)
+    returns returns-2 (λ c. search needs) (λ c κs. tt) (λ c. search needs) (λ c. search needs) (λ c. search needs) returns-3)

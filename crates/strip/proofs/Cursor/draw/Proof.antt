@@ -17,4 +17,4 @@ pub draw-spec : {M : Type 1} → statement M
 draw-spec =
     tie.close
     (tie.spec
-    returns (λ c κs. search needs) (λ c. search needs) (λ c. search needs) (λ c. search needs) (λ c. search needs) returns-2 returns-3)
+    returns (λ c κs. tt) (λ c. search needs) (λ c. search needs) (λ c. search needs) (λ c. search needs) returns-2 returns-3)

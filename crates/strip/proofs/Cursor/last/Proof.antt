@@ -16,5 +16,5 @@ pub last-spec : {M : Type 1} → statement M
 last-spec =
     tie.close
     (tie.spec
-    (λ c κs. search needs) (λ c. search needs) (λ c. search needs) (λ c. search needs) (λ c κs. search needs) (λ c κs. search needs)
+    (λ c κs. tt) (λ c. search needs) (λ c. search needs) (λ c. search needs) (λ c κs. tt) (λ c κs. tt)
     (λ c. search needs) (λ c. search needs) returns returns-2 returns-3)

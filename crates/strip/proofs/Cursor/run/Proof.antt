@@ -19,5 +19,5 @@ pub run-spec : {M : Type 1} → statement M
 run-spec =
     tie.close
     (tie.spec
-    (λ c. search needs) (λ c κs. search needs) (λ c κs. search needs) returns returns-2 (λ c. search needs) (λ c. search needs)
+    (λ c. search needs) (λ c κs. tt) (λ c κs. search needs) returns returns-2 (λ c. search needs) (λ c. search needs)
     returns-3)

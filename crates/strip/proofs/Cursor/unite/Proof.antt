@@ -1,7 +1,6 @@
 use mathlib.Core.List.{[]}
 use native.Mathlib.Omega.{arith}
 use Rattle.strip.proofs.Effects.{unite-first, unite-more}
-use borrow.Author.Needs.{needs}
 use Rattle.strip.proofs.Cursor.unite.Statement.{statement}
 use Rattle.strip.proofs.Cursor.unite.Tie as tie
 
@@ -18,4 +17,4 @@ pub unite-spec : {M : Type 1} → statement M
 unite-spec =
     tie.close
     (tie.spec
-    returns (λ c κs. search needs) returns-2 (λ c κs. search needs) returns-3)
+    returns (λ c κs. tt) returns-2 (λ c κs. tt) returns-3)
