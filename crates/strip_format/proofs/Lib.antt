@@ -2,4 +2,3 @@
 pub mod Lengths
 pub mod Commands
 pub mod Past
-mod Offsets

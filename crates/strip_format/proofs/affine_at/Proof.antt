@@ -1,4 +1,3 @@
-use Rattle.strip_format.proofs.Offsets.{ahead}
 use denote.Ref.{now}
 use native.Mathlib.Omega.{arith}
 use mathlib.Core.Path.{sym}
@@ -16,6 +15,5 @@ pub affine-at-spec : {M : Type 1} → statement M
 affine-at-spec =
     tie.close
     (tie.spec
-    returns (λ c κs. tt) (λ c. ahead 8 tt (c .before .if1 .left) (c .before .before .before .good .0 .1)) (λ c κs. tt) (λ c. ahead 16 tt (c .before .before .if1 .left) (c .before .before .before .before .good .0 .1)) (λ c κs. tt)
-    (λ c. ahead 24 tt (c .before .before .before .if1 .left) (c .before .before .before .before .before .good .0 .1)) (λ c κs. tt) (λ c. ahead 32 tt (c .before .before .before .before .if1 .left) (c .before .before .before .before .before .before .good .0 .1)) (λ c κs. tt) (λ c. ahead 40 tt (c .before .before .before .before .before .if1 .left) (c .before .before .before .before .before .before .before .good .0 .1)) (λ c κs. tt)
-    returns-2)
+    returns (λ c κs. tt) (λ c. omega arith) (λ c κs. tt) (λ c. omega arith) (λ c κs. tt) (λ c. omega arith) (λ c κs. tt)
+    (λ c. omega arith) (λ c κs. tt) (λ c. omega arith) (λ c κs. tt) returns-2)
