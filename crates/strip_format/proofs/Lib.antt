@@ -3,4 +3,3 @@ pub mod Lengths
 pub mod Commands
 pub mod Past
 mod Parts
-mod Offsets

@@ -1,4 +1,4 @@
-use Rattle.strip_format.proofs.Offsets.{ahead-in}
+use native.Mathlib.Omega.{arith}
 use Rattle.commands.specs.declared.DrawCommand.the-variants.{FillPath}
 use Rattle.strip_format.proofs.fill_at.Statement.{statement}
 use Rattle.strip_format.proofs.fill_at.Tie as tie
@@ -10,4 +10,5 @@ pub fill-at-spec : {M : Type 1} → statement M
 fill-at-spec =
     tie.close
     (tie.spec
-    (λ c. ahead-in (c .before .args .at) 96 1 tt (c .before .pre) (c .before .good .0 .1)) (λ c κs. tt) (λ c. ahead-in (c .before .before .args .at) 96 9 tt (c .before .before .pre) (c .before .before .good .0 .1)) (λ c κs. tt) (λ c. ahead-in (c .before .before .before .args .at) 96 41 tt (c .before .before .before .pre) (c .before .before .before .good .0 .1)) (λ c κs. tt) (λ c. ahead-in (c .before .before .before .before .args .at) 96 89 tt (c .before .before .before .before .pre) (c .before .before .before .before .good .0 .1)) (λ c κs. tt) returns)
+    (λ c. omega arith) (λ c κs. tt) (λ c. omega arith) (λ c κs. tt) (λ c. omega arith) (λ c κs. tt) (λ c. omega arith) (λ c κs. tt)
+    returns)

@@ -1,4 +1,4 @@
-use Rattle.strip_format.proofs.Offsets.{ahead}
+use native.Mathlib.Omega.{arith}
 use Rattle.strip_format.proofs.Past.{glyph-past}
 use Rattle.strip_format.proofs.glyph_at.Statement.{statement}
 use Rattle.strip_format.proofs.glyph_at.Tie as tie
@@ -13,5 +13,5 @@ pub glyph-at-spec : {M : Type 1} → statement M
 glyph-at-spec =
     tie.close
     (tie.spec
-    (λ c κs. tt) returns (λ c. ahead 1 tt (c .if1 .left) (c .before .before .good .0 .1)) (λ c κs. tt) (λ c. record { fits = c .u32-at .ensures .1 }) (λ c. ahead 5 tt (c .before .if1 .left) (c .before .before .before .good .0 .1))
-    (λ c κs. tt) (λ c. ahead 9 tt (c .before .before .if1 .left) (c .before .before .before .before .good .0 .1)) (λ c κs. tt) (λ c. ahead 13 tt (c .before .before .before .if1 .left) (c .before .before .before .before .before .good .0 .1)) (λ c κs. tt) returns-2)
+    (λ c κs. tt) returns (λ c. omega arith) (λ c κs. tt) (λ c. record { fits = c .u32-at .ensures .1 }) (λ c. omega arith)
+    (λ c κs. tt) (λ c. omega arith) (λ c κs. tt) (λ c. omega arith) (λ c κs. tt) returns-2)

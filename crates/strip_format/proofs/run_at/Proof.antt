@@ -1,4 +1,4 @@
-use Rattle.strip_format.proofs.Offsets.{ahead-in}
+use native.Mathlib.Omega.{arith}
 use Rattle.commands.specs.declared.DrawCommand.the-variants.{GlyphRun}
 use borrow.Author.Needs.{needs}
 use Rattle.strip_format.proofs.run_at.Statement.{statement}
@@ -11,4 +11,5 @@ pub run-at-spec : {M : Type 1} → statement M
 run-at-spec =
     tie.close
     (tie.spec
-    (λ c. ahead-in (c .before .args .at) 102 1 tt (c .before .pre) (c .before .good .0 .1)) (λ c κs. tt) (λ c. ahead-in (c .before .before .args .at) 102 9 tt (c .before .before .pre) (c .before .before .good .0 .1)) (λ c κs. tt) (λ c. ahead-in (c .before .before .before .args .at) 102 13 tt (c .before .before .before .pre) (c .before .before .before .good .0 .1)) (λ c κs. tt) (λ c. ahead-in (c .before .before .before .before .args .at) 102 61 tt (c .before .before .before .before .pre) (c .before .before .before .before .good .0 .1)) (λ c κs. tt) (λ c. ahead-in (c .before .before .before .before .before .args .at) 102 69 tt (c .before .before .before .before .before .pre) (c .before .before .before .before .before .good .0 .1)) (λ c κs. tt) (λ c. ahead-in (c .before .before .before .before .before .before .args .at) 102 101 tt (c .before .before .before .before .before .before .pre) (c .before .before .before .before .before .before .good .0 .1)) (λ c κs. tt) (λ c. search needs) returns)
+    (λ c. omega arith) (λ c κs. tt) (λ c. omega arith) (λ c κs. tt) (λ c. omega arith) (λ c κs. tt) (λ c. omega arith) (λ c κs. tt)
+    (λ c. omega arith) (λ c κs. tt) (λ c. omega arith) (λ c κs. tt) (λ c. search needs) returns)

@@ -1,5 +1,4 @@
 use Rattle.strip_format.specs.Format.{joinOf, capOf}
-use Rattle.strip_format.proofs.Offsets.{ahead}
 use denote.Ref.{now}
 use native.Mathlib.Omega.{arith}
 use mathlib.Core.Path.{sym, ap, _∙_}
@@ -17,6 +16,5 @@ pub stroke-at-spec : {M : Type 1} → statement M
 stroke-at-spec =
     tie.close
     (tie.spec
-    returns (λ c κs. tt) (λ c. ahead 8 tt (c .before .if1 .left) (c .before .before .before .good .0 .1)) (λ c κs. tt) (λ c κs. tt) (λ c. ahead 9 tt (c .before .before .before .if1 .left) (c .before .before .before .before .before .good .0 .1))
-    (λ c κs. tt) (λ c. ahead 17 tt (c .before .before .before .before .if1 .left) (c .before .before .before .before .before .before .good .0 .1)) (λ c κs. tt) (λ c κs. tt) (λ c. ahead 18 tt (c .before .before .before .before .before .before .if1 .left) (c .before .before .before .before .before .before .before .before .good .0 .1))
-    (λ c κs. tt) (λ c κs. tt) (λ c. ahead 19 tt (c .before .before .before .before .before .before .before .before .if1 .left) (c .before .before .before .before .before .before .before .before .before .before .good .0 .1)) (λ c κs. tt) returns-2)
+    returns (λ c κs. tt) (λ c. omega arith) (λ c κs. tt) (λ c κs. tt) (λ c. omega arith) (λ c κs. tt) (λ c. omega arith) (λ c κs. tt)
+    (λ c κs. tt) (λ c. omega arith) (λ c κs. tt) (λ c κs. tt) (λ c. omega arith) (λ c κs. tt) returns-2)
