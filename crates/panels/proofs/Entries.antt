@@ -6,12 +6,13 @@ use mathlib.Core.Option.{Option, none, some}
 use Prim.Native.Nat.{ℕ, _+_, _≤_, _<_}
 use native.Mathlib.Omega.{arith}
 use lib.Dec.{leb, ltb, eqb}
-use lib.ListN.{length, drop, length-append, List·getD-append}
+use lib.ListN.{length, drop, getD, length-append, List·getD-append}
 use borrow.Author.Tests.{le-ltb, ltb-false, leb-true, eqb-false}
 use Rattle.lists.specs.Pick.{pick}
 use Rattle.lists.proofs.Picks.{pick-cases}
 use Rattle.commands.specs.Bounds.{Command, bounds}
 use Rattle.little_endian.specs.Words.{u32At}
+use Rattle.little_endian.proofs.Alike.{u32-same}
 use Rattle.rows.specs.Rows.{rowCount}
 use Rattle.index_words.specs.Index.{indexWords}
 use Rattle.scheduler.specs.Schedule.{Sizes, schedule}
@@ -66,8 +67,10 @@ module _ (header : List ℕ) (twelve : length header ≡ 12) where
 
   -- ---- the header, before any bytes
   word-same : (s : List ℕ) (at : ℕ) → at + 4 ≤ 12 → u32At (header ++ s) at ≡ u32At header at
-  unfolding u32At
-  word-same s at k = rw (List·getD-append header s 0 at (omega (arith, twelve)), List·getD-append header s 0 (at + 1) (omega (arith, twelve)), List·getD-append header s 0 (at + 2) (omega (arith, twelve)), List·getD-append header s 0 (at + 3) (omega (arith, twelve)))
+  word-same s at k = sym (u32-same header (header ++ s) 0 12 front at at (omega arith) k)
+    where
+      front : (i j : ℕ) → j ≡ 0 + i → i < 12 → getD header i 0 ≡ getD (header ++ s) j 0
+      front i j e h = let f : j ≡ i = omega arith in rw f (sym (List·getD-append header s 0 i (omega (arith, twelve))))
 
   -- it is turned away, or its sizes fit
   by-header : (P : Outcome → Type 0) (s : List ℕ) (k : ℕ → ℕ → ℕ → Outcome) → ((n : ℕ) → P (turned n 0)) → (Sizes w h b → P (k w h b)) → P (onHeader (headerOf (header ++ s)) k)

@@ -2,4 +2,4 @@
 pub mod Lengths
 pub mod Commands
 pub mod Past
-mod Parts
+pub mod Alike

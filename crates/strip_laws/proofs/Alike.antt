@@ -10,9 +10,10 @@ use lib.Ieee.{binary32, binary64, ofBits}
 use lib.Ieee.Scale.{finite}
 use borrow.Author.Tests.{le-leb, eqb-true}
 use Rattle.lists.specs.Pick.{pick}
-use Rattle.little_endian.specs.Words.{u16At, u32At, u64At, f32At, f64At, finiteOr}
+use Rattle.little_endian.proofs.Alike.{u16-same, u32-same, u64-same, f32-same}
 use Rattle.commands.specs.declared.DrawCommand.the-variants.{FillPath, StrokePath, GlyphRun, Scene}
-use Rattle.strip_format.specs.Format.{lengthOf, rectAt, affineAt, joinOf, capOf, strokeAt, fillAt, strokePathAt, runAt, sceneAt, commandAt, glyphAt}
+use Rattle.strip_format.specs.Format.{lengthOf, fillAt, strokePathAt, runAt, sceneAt, commandAt}
+use Rattle.strip_format.proofs.Alike.{rect-same, affine-same, stroke-same}
 use Rattle.strip_format.proofs.Lengths.{length-pos, length-clip, length-fill, length-stroke, length-run, length-glyph, length-scene}
 use Rattle.strip.proofs.Moves.{at-byte}
 use Rattle.operand_checks.specs.Operands.{finiteFrom, finiteF32, finiteStroke, finiteRun, finiteGlyph, codesFit, operandsAt}
@@ -26,97 +27,41 @@ pick-both true x y z w f g = f refl
 pick-both false x y z w f g = g refl
 
 module _ (s r : List ℕ) (by n : ℕ) (same : (i j : ℕ) → j ≡ by + i → i < n → getD s i 0 ≡ getD r j 0) where
-  -- ---- numbers
-  pub u16-same : (at to : ℕ) → to ≡ by + at → at + 2 ≤ n → u16At s at ≡ u16At r to
-  unfolding u16At
-  u16-same at to v h = rw (same at to v (omega arith), same (at + 1) (to + 1) (omega arith) (omega arith))
-
-  u32-same : (at to : ℕ) → to ≡ by + at → at + 4 ≤ n → u32At s at ≡ u32At r to
-  unfolding u32At
-  u32-same at to v h = rw (same at to v (omega arith), same (at + 1) (to + 1) (omega arith) (omega arith), same (at + 2) (to + 2) (omega arith) (omega arith), same (at + 3) (to + 3) (omega arith) (omega arith))
-
-  u64-same : (at to : ℕ) → to ≡ by + at → at + 8 ≤ n → u64At s at ≡ u64At r to
-  unfolding u64At
-  u64-same at to v h = rw (u32-same at to v (omega arith), u32-same (at + 4) (to + 4) (omega arith) (omega arith))
-
-  f64-same : (at to : ℕ) → to ≡ by + at → at + 8 ≤ n → f64At s at ≡ f64At r to
-  f64-same at to v h = ap (finiteOr binary64) (u64-same at to v h)
-
-  f32-same : (at to : ℕ) → to ≡ by + at → at + 4 ≤ n → f32At s at ≡ f32At r to
-  f32-same at to v h = ap (finiteOr binary32) (u32-same at to v h)
-
-  -- ---- boxes, affines, strokes
-  pub rect-same : (at to : ℕ) → to ≡ by + at → at + 32 ≤ n → rectAt s at ≡ rectAt r to
-  rect-same at to v h =
-      let a = f64-same at to v (omega arith) in
-      let b = f64-same (at + 8) (to + 8) (omega arith) (omega arith) in
-      let c = f64-same (at + 16) (to + 16) (omega arith) (omega arith) in
-      let d = f64-same (at + 24) (to + 24) (omega arith) (omega arith) in
-      λ i. record { x0 = a i; y0 = b i; x1 = c i; y1 = d i }
-
-  affine-same : (at to : ℕ) → to ≡ by + at → at + 48 ≤ n → affineAt s at ≡ affineAt r to
-  affine-same at to v h =
-      let a = f64-same at to v (omega arith) in
-      let b = f64-same (at + 8) (to + 8) (omega arith) (omega arith) in
-      let c = f64-same (at + 16) (to + 16) (omega arith) (omega arith) in
-      let d = f64-same (at + 24) (to + 24) (omega arith) (omega arith) in
-      let e = f64-same (at + 32) (to + 32) (omega arith) (omega arith) in
-      let f = f64-same (at + 40) (to + 40) (omega arith) (omega arith) in
-      λ i. record { a = a i; b = b i; c = c i; d = d i; e = e i; f = f i }
-
-  stroke-same : (at to : ℕ) → to ≡ by + at → at + 27 ≤ n → strokeAt s at ≡ strokeAt r to
-  stroke-same at to v h =
-      let w = f64-same at to v (omega arith) in
-      let j = same (at + 8) (to + 8) (omega arith) (omega arith) in
-      let l = f64-same (at + 9) (to + 9) (omega arith) (omega arith) in
-      let p = same (at + 17) (to + 17) (omega arith) (omega arith) in
-      let q = same (at + 18) (to + 18) (omega arith) (omega arith) in
-      let d = u64-same (at + 19) (to + 19) (omega arith) (omega arith) in
-      λ i. record { width = w i; join = joinOf (j i); «miter_limit» = l i; «start_cap» = capOf (p i); «end_cap» = capOf (q i); dash = d i }
-
-  pub glyph-same-at : (at to : ℕ) → to ≡ by + at → at + 45 ≤ n → glyphAt s at ≡ glyphAt r to
-  glyph-same-at at to v h =
-      let d = u32-same (at + 1) (to + 1) (omega arith) (omega arith) in
-      let x = f32-same (at + 5) (to + 5) (omega arith) (omega arith) in
-      let y = f32-same (at + 9) (to + 9) (omega arith) (omega arith) in
-      let b = rect-same (at + 13) (to + 13) (omega arith) (omega arith) in
-      λ i. record { id = d i; x = x i; y = y i; bounds = b i }
-
   -- ---- commands
   fill-same : (at to : ℕ) → to ≡ by + at → at + 97 ≤ n → fillAt s at ≡ fillAt r to
   fill-same at to v h =
-      let p = u64-same (at + 1) (to + 1) (omega arith) (omega arith) in
-      let b = rect-same (at + 9) (to + 9) (omega arith) (omega arith) in
-      let t = affine-same (at + 41) (to + 41) (omega arith) (omega arith) in
-      let k = u64-same (at + 89) (to + 89) (omega arith) (omega arith) in
+      let p = u64-same s r by n same (at + 1) (to + 1) (omega arith) (omega arith) in
+      let b = rect-same s r by n same (at + 9) (to + 9) (omega arith) (omega arith) in
+      let t = affine-same s r by n same (at + 41) (to + 41) (omega arith) (omega arith) in
+      let k = u64-same s r by n same (at + 89) (to + 89) (omega arith) (omega arith) in
       λ i. FillPath (p i) (b i) (t i) (k i)
 
   stroke-path-same : (at to : ℕ) → to ≡ by + at → at + 124 ≤ n → strokePathAt s at ≡ strokePathAt r to
   stroke-path-same at to v h =
-      let p = u64-same (at + 1) (to + 1) (omega arith) (omega arith) in
-      let b = rect-same (at + 9) (to + 9) (omega arith) (omega arith) in
-      let t = affine-same (at + 41) (to + 41) (omega arith) (omega arith) in
-      let z = stroke-same (at + 97) (to + 97) (omega arith) (omega arith) in
-      let k = u64-same (at + 89) (to + 89) (omega arith) (omega arith) in
+      let p = u64-same s r by n same (at + 1) (to + 1) (omega arith) (omega arith) in
+      let b = rect-same s r by n same (at + 9) (to + 9) (omega arith) (omega arith) in
+      let t = affine-same s r by n same (at + 41) (to + 41) (omega arith) (omega arith) in
+      let z = stroke-same s r by n same (at + 97) (to + 97) (omega arith) (omega arith) in
+      let k = u64-same s r by n same (at + 89) (to + 89) (omega arith) (omega arith) in
       λ i. StrokePath (p i) (b i) (t i) (z i) (k i)
 
   run-same : (at to : ℕ) → to ≡ by + at → at + 103 ≤ n → runAt s at ≡ runAt r to
   run-same at to v h =
-      let f = u64-same (at + 1) (to + 1) (omega arith) (omega arith) in
-      let z = f32-same (at + 9) (to + 9) (omega arith) (omega arith) in
-      let t = affine-same (at + 13) (to + 13) (omega arith) (omega arith) in
-      let k = u64-same (at + 61) (to + 61) (omega arith) (omega arith) in
-      let b = rect-same (at + 69) (to + 69) (omega arith) (omega arith) in
-      let c = u16-same (at + 101) (to + 101) (omega arith) (omega arith) in
+      let f = u64-same s r by n same (at + 1) (to + 1) (omega arith) (omega arith) in
+      let z = f32-same s r by n same (at + 9) (to + 9) (omega arith) (omega arith) in
+      let t = affine-same s r by n same (at + 13) (to + 13) (omega arith) (omega arith) in
+      let k = u64-same s r by n same (at + 61) (to + 61) (omega arith) (omega arith) in
+      let b = rect-same s r by n same (at + 69) (to + 69) (omega arith) (omega arith) in
+      let c = u16-same s r by n same (at + 101) (to + 101) (omega arith) (omega arith) in
       λ i. GlyphRun (f i) (z i) (t i) (k i) (b i) (c i)
 
   scene-same : (at to : ℕ) → to ≡ by + at → at + 105 ≤ n → sceneAt s at ≡ sceneAt r to
   scene-same at to v h =
-      let c = u64-same (at + 1) (to + 1) (omega arith) (omega arith) in
-      let g = u64-same (at + 9) (to + 9) (omega arith) (omega arith) in
-      let k = u64-same (at + 17) (to + 17) (omega arith) (omega arith) in
-      let t = affine-same (at + 25) (to + 25) (omega arith) (omega arith) in
-      let b = rect-same (at + 73) (to + 73) (omega arith) (omega arith) in
+      let c = u64-same s r by n same (at + 1) (to + 1) (omega arith) (omega arith) in
+      let g = u64-same s r by n same (at + 9) (to + 9) (omega arith) (omega arith) in
+      let k = u64-same s r by n same (at + 17) (to + 17) (omega arith) (omega arith) in
+      let t = affine-same s r by n same (at + 25) (to + 25) (omega arith) (omega arith) in
+      let b = rect-same s r by n same (at + 73) (to + 73) (omega arith) (omega arith) in
       λ i. Scene (c i) (g i) (k i) (t i) (b i)
 
   pub command-same : (at to : ℕ) → to ≡ by + at → at + lengthOf (getD s at 0) ≤ n → n ≤ length s → by + n ≤ length r → commandAt s at ≡ commandAt r to
@@ -137,12 +82,12 @@ module _ (s r : List ℕ) (by n : ℕ) (same : (i j : ℕ) → j ≡ by + i → 
   unfolding finiteFrom
   finite-same zero at to v h = refl
   finite-same (suc m) at to v h =
-      let u = u64-same at to v (omega arith) in
+      let u = u64-same s r by n same at to v (omega arith) in
       let y = finite-same m (at + 8) (to + 8) (omega arith) (omega arith) in
       λ i. finite (ofBits binary64 (u i)) && y i
 
   single-same : (at to : ℕ) → to ≡ by + at → at + 4 ≤ n → finiteF32 s at ≡ finiteF32 r to
-  single-same at to v h = ap (λ (z : ℕ). finite (ofBits binary32 z)) (u32-same at to v h)
+  single-same at to v h = ap (λ (z : ℕ). finite (ofBits binary32 z)) (u32-same s r by n same at to v h)
 
   pub operands-same : (at to b : ℕ) → to ≡ by + at → at + lengthOf b ≤ n → operandsAt s at b ≡ operandsAt r to b
   unfolding operandsAt finiteStroke finiteRun finiteGlyph

@@ -21,7 +21,8 @@ use Rattle.strip.proofs.Moves.{Moved, step-moves}
 use Rattle.strip_laws.specs.Limits.{Whole}
 use Rattle.strip_laws.proofs.Steps.{Kept}
 use Rattle.strip_laws.proofs.Runs.{InRun, step-in-run, Draws, step-draws}
-use Rattle.strip_laws.proofs.Alike.{glyph-same-at, command-same}
+use Rattle.strip_format.proofs.Alike.{glyph-same-at}
+use Rattle.strip_laws.proofs.Alike.{command-same}
 use Rattle.strip_laws.proofs.Shifts.{Shifted, StepAlike, nexts, clips, pops, draws, ends, turns, Goes, step-alike}
 
 -- the same answer, `by` bytes further on

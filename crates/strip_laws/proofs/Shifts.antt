@@ -29,7 +29,9 @@ use Rattle.strip.specs.Steps.{dueFits, onBox, clipStep, popStep, drawn, drawSte
 use Rattle.strip.proofs.Effects.{due-glyph, step-past, step-unknown, step-due, step-short, step-operands, step-effect}
 use Rattle.strip.proofs.Moves.{at-byte}
 use Rattle.strip_laws.proofs.Runs.{InRun}
-use Rattle.strip_laws.proofs.Alike.{u16-same, rect-same, command-same, operands-same}
+use Rattle.little_endian.proofs.Alike.{u16-same}
+use Rattle.strip_format.proofs.Alike.{rect-same}
+use Rattle.strip_laws.proofs.Alike.{command-same, operands-same}
 
 -- ---- what is the same
 -- the same cursor, `by` bytes further on; where no glyph is due it does not matter where the last run began

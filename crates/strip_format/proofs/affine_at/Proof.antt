@@ -2,7 +2,7 @@ use denote.Ref.{now}
 use native.Mathlib.Omega.{arith}
 use mathlib.Core.Path.{sym, _∙_}
 use Rattle.strip_format.proofs.Past.{affine-past}
-use Rattle.strip_format.proofs.Parts.{affine-in}
+use Rattle.strip_format.proofs.Alike.{affine-in}
 use borrow.Author.Needs.{needs}
 use Rattle.strip_format.proofs.affine_at.Statement.{statement}
 use Rattle.strip_format.proofs.affine_at.Tie as tie

@@ -2,7 +2,7 @@ use denote.Ref.{now}
 use native.Mathlib.Omega.{arith}
 use mathlib.Core.Path.{sym, _∙_}
 use Rattle.strip_format.proofs.Past.{rect-past}
-use Rattle.strip_format.proofs.Parts.{rect-in}
+use Rattle.strip_format.proofs.Alike.{rect-in}
 use borrow.Author.Needs.{needs}
 use Rattle.strip_format.proofs.rect_at.Statement.{statement}
 use Rattle.strip_format.proofs.rect_at.Tie as tie

@@ -1,0 +1,53 @@
+-- Two rows of bytes, one with the first n bytes of the other from byte `by` on: boxes, affines, strokes and glyphs within those bytes are the same. Assumes nothing.
+use mathlib.Core.Path.{_≡_}
+use mathlib.Core.List.{List}
+use Prim.Native.Nat.{ℕ, _+_, _≤_, _<_}
+use native.Mathlib.Omega.{arith}
+use lib.ListN.{getD}
+use Rattle.little_endian.proofs.Alike.{u32-same, u64-same, f32-same, f64-same}
+use Rattle.little_endian.proofs.Parts.{part, part-same}
+use Rattle.strip_format.specs.Format.{rectAt, affineAt, joinOf, capOf, strokeAt, glyphAt}
+
+module _ (s r : List ℕ) (by n : ℕ) (same : (i j : ℕ) → j ≡ by + i → i < n → getD s i 0 ≡ getD r j 0) where
+  pub rect-same : (at to : ℕ) → to ≡ by + at → at + 32 ≤ n → rectAt s at ≡ rectAt r to
+  rect-same at to v h =
+      let a = f64-same s r by n same at to v (omega arith) in
+      let b = f64-same s r by n same (at + 8) (to + 8) (omega arith) (omega arith) in
+      let c = f64-same s r by n same (at + 16) (to + 16) (omega arith) (omega arith) in
+      let d = f64-same s r by n same (at + 24) (to + 24) (omega arith) (omega arith) in
+      λ i. record { x0 = a i; y0 = b i; x1 = c i; y1 = d i }
+
+  pub affine-same : (at to : ℕ) → to ≡ by + at → at + 48 ≤ n → affineAt s at ≡ affineAt r to
+  affine-same at to v h =
+      let a = f64-same s r by n same at to v (omega arith) in
+      let b = f64-same s r by n same (at + 8) (to + 8) (omega arith) (omega arith) in
+      let c = f64-same s r by n same (at + 16) (to + 16) (omega arith) (omega arith) in
+      let d = f64-same s r by n same (at + 24) (to + 24) (omega arith) (omega arith) in
+      let e = f64-same s r by n same (at + 32) (to + 32) (omega arith) (omega arith) in
+      let f = f64-same s r by n same (at + 40) (to + 40) (omega arith) (omega arith) in
+      λ i. record { a = a i; b = b i; c = c i; d = d i; e = e i; f = f i }
+
+  pub stroke-same : (at to : ℕ) → to ≡ by + at → at + 27 ≤ n → strokeAt s at ≡ strokeAt r to
+  stroke-same at to v h =
+      let w = f64-same s r by n same at to v (omega arith) in
+      let j = same (at + 8) (to + 8) (omega arith) (omega arith) in
+      let l = f64-same s r by n same (at + 9) (to + 9) (omega arith) (omega arith) in
+      let p = same (at + 17) (to + 17) (omega arith) (omega arith) in
+      let q = same (at + 18) (to + 18) (omega arith) (omega arith) in
+      let d = u64-same s r by n same (at + 19) (to + 19) (omega arith) (omega arith) in
+      λ i. record { width = w i; join = joinOf (j i); «miter_limit» = l i; «start_cap» = capOf (p i); «end_cap» = capOf (q i); dash = d i }
+
+  pub glyph-same-at : (at to : ℕ) → to ≡ by + at → at + 45 ≤ n → glyphAt s at ≡ glyphAt r to
+  glyph-same-at at to v h =
+      let d = u32-same s r by n same (at + 1) (to + 1) (omega arith) (omega arith) in
+      let x = f32-same s r by n same (at + 5) (to + 5) (omega arith) (omega arith) in
+      let y = f32-same s r by n same (at + 9) (to + 9) (omega arith) (omega arith) in
+      let b = rect-same (at + 13) (to + 13) (omega arith) (omega arith) in
+      λ i. record { id = d i; x = x i; y = y i; bounds = b i }
+
+-- in a part that holds them
+pub rect-in : (s : List ℕ) (at : ℕ) → rectAt (part s at 32) 0 ≡ rectAt s at
+rect-in s at = rect-same (part s at 32) s at 32 (part-same s at 32) 0 at (omega arith) (omega arith)
+
+pub affine-in : (s : List ℕ) (at : ℕ) → affineAt (part s at 48) 0 ≡ affineAt s at
+affine-in s at = affine-same (part s at 48) s at 48 (part-same s at 48) 0 at (omega arith) (omega arith)
