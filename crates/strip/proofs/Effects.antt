@@ -1,11 +1,14 @@
 -- What a step is, by the tests that the code makes. Assumes nothing.
 use mathlib.Core.Path.{_≡_, refl, sym, ap, _∙_}
-use mathlib.Core.Bool.{true, false}
+use mathlib.Core.Bool.{Bool, true, false}
 use mathlib.Core.List.{List}
 use Prim.Native.Nat.{ℕ, _+_, _-_, _≤_, _<_}
 use native.Mathlib.Omega.{arith}
 use lib.ListN.{length, getD}
-use borrow.Author.Tests.{le-leb, lt-leb, lt-ltb, le-ltb, eq-eqb, ne-eqb, ltb-true}
+use borrow.Author.Tests.{le-leb, lt-leb, lt-ltb, le-ltb, eq-eqb, ne-eqb, eqb-true, eqb-false, ltb-true}
+use lib.Dec.{eqb}
+use Rattle.lists.proofs.Picks.{pick-true, pick-false}
+use Rattle.strip_format.proofs.Lengths.{length-run}
 use Rattle.little_endian.specs.Words.{u16At}
 use Rattle.geometry.specs.declared.Rect.{Rect}
 use Rattle.geometry.specs.Boxes.{union}
@@ -18,7 +21,7 @@ use Rattle.strip_format.specs.Format.{lengthOf, rectAt, commandAt}
 use Rattle.operand_checks.specs.Operands.{operandsAt}
 use Rattle.strip.specs.declared.Cursor.{Cursor}
 use Rattle.strip.specs.declared.Step.the-variants.{Next, Clip, Pop, Draw, Refused}
-use Rattle.strip.specs.Steps.{dueFits, onBox, clipStep, popStep, drawn, drawStep, runStep, unite, lastStep, glyphStep, endStep, effectOf, stepAt}
+use Rattle.strip.specs.Steps.{dueFits, onBox, clipStep, popStep, drawn, drawStep, runStep, announced, announce, Draws, unite, lastStep, glyphStep, endStep, effectOf, stepAt}
 
 -- a GLYPH that may stand here is due
 pub due-glyph : (b due : ℕ) → b ≡ 6 → dueFits b due ≡ true → 0 < due
@@ -63,14 +66,6 @@ module _ (s : List ℕ) (st : Cursor) where
   pub run-empty : u16At s (st .at + 101) ≡ 0 → drawStep s st 103 ≡ runStep s st
   unfolding runStep
   run-empty h = rw (eq-eqb (u16At s (st .at + 101)) 0 h)
-
-  pub run-many : (u16At s (st .at + 101) ≡ 0 → ⊥) → 4096 ≤ st .commands → Refused 6 (st .at) ≡ runStep s st
-  unfolding runStep
-  run-many h k = rw (ne-eqb (u16At s (st .at + 101)) 0 h, le-leb 4096 (st .commands) k)
-
-  pub run-read : (u16At s (st .at + 101) ≡ 0 → ⊥) → st .commands < 4096 → Next (drawn st 103 (u16At s (st .at + 101))) ≡ runStep s st
-  unfolding runStep
-  run-read h k = rw (ne-eqb (u16At s (st .at + 101)) 0 h, lt-leb 4096 (st .commands) k)
 
   -- ---- glyphs
   pub unite-first : (box : Rect) → st .run ≤ st .at → st .at - st .run ≡ 103 → box ≡ unite st box
@@ -146,6 +141,28 @@ module _ (s : List ℕ) (st : Cursor) where
   pub effect-draw : (b : ℕ) → (b ≡ 0 → ⊥) → (b ≡ 1 → ⊥) → (b ≡ 2 → ⊥) → (b ≡ 5 → ⊥) → (b ≡ 6 → ⊥) → drawStep s st (lengthOf b) ≡ effectOf s st b
   unfolding effectOf
   effect-draw b n0 n1 n2 n5 n6 = rw (ne-eqb b 0 n0, ne-eqb b 1 n1, ne-eqb b 2 n2, ne-eqb b 5 n5, ne-eqb b 6 n6)
+
+  -- ---- any drawing command, by how many glyphs it announces
+  pub draws-whole : (b due : ℕ) → Draws b → due ≡ announced s (st .at) b → due ≡ 0 → drawStep s st (lengthOf b) ≡ effectOf s st b
+  draws-whole b due d e z = by (eqb b 5) refl
+    where
+      by : (t : Bool) → eqb b 5 ≡ t → drawStep s st (lengthOf b) ≡ effectOf s st b
+      by true q =
+          let five : b ≡ 5 = eqb-true b 5 q in
+          ap (drawStep s st) (ap lengthOf five ∙ length-run) ∙ run-empty (sym (pick-true (eqb b 5) (u16At s (st .at + 101)) 0 q) ∙ sym e ∙ z) ∙ effect-run b five
+      by false q = effect-draw b (d .0) (d .1) (d .2) (eqb-false b 5 q) (d .3)
+
+  pub draws-run : (b due : ℕ) → Draws b → due ≡ announced s (st .at) b → (due ≡ 0 → ⊥) → announce st due ≡ effectOf s st b
+  unfolding runStep
+  draws-run b due d e some = by (eqb b 5) refl
+    where
+      by : (t : Bool) → eqb b 5 ≡ t → announce st due ≡ effectOf s st b
+      by true q =
+          let u : due ≡ u16At s (st .at + 101) = e ∙ pick-true (eqb b 5) (u16At s (st .at + 101)) 0 q in
+          ap (announce st) u
+          ∙ sym (pick-false (eqb (u16At s (st .at + 101)) 0) (drawStep s st 103) (announce st (u16At s (st .at + 101))) (ne-eqb (u16At s (st .at + 101)) 0 (λ z. some (u ∙ z))))
+          ∙ effect-run b (eqb-true b 5 q)
+      by false q = absurd (some (e ∙ pick-false (eqb b 5) (u16At s (st .at + 101)) 0 q))
 
   -- ---- the step, by the checks in their order
   pub step-past : length s ≤ st .at → Refused 2 (length s) ≡ stepAt s st

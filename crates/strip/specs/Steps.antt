@@ -1,4 +1,5 @@
 -- One step of reading: the command at the cursor is turned away, or the cursor moves past it. The checks stand in the table's order.
+use mathlib.Core.Path.{_≡_}
 use mathlib.Core.Bool.{Bool}
 use mathlib.Core.List.{List}
 use Prim.Native.Nat.{ℕ, _+_, _-_}
@@ -66,6 +67,13 @@ runStep s st =
     (drawStep s st 103)
     (pick (leb 4096 (st .commands)) (Refused 6 (st .at)) (Next (drawn st 103 (u16At s (st .at + 101)))))
 
+-- how many glyphs a command announces, and the step of a RUN that announces some
+abbrev pub announced : List ℕ → ℕ → ℕ → ℕ
+announced s at b = pick (eqb b 5) (u16At s (at + 101)) 0
+
+abbrev pub announce : Cursor → ℕ → Step
+announce st due = pick (leb 4096 (st .commands)) (Refused 6 (st .at)) (Next (drawn st 103 due))
+
 -- the boxes of a run's glyphs up to this one, united: the first glyph stands right behind its RUN
 abbrev pub unite : Cursor → Rect → Rect
 unite st box = pick (eqb (st .at) (st .run + 103)) box (union (st .united) box)
@@ -98,6 +106,10 @@ effectOf s st b =
     (pick (eqb b 1)
     (clipStep s st)
     (pick (eqb b 2) (popStep st) (pick (eqb b 5) (runStep s st) (pick (eqb b 6) (glyphStep s st) (drawStep s st (lengthOf b))))))
+
+-- a byte that is none of END, CLIP, POP and GLYPH
+abbrev pub Draws : ℕ → Type 0
+Draws b = (b ≡ 0 → ⊥) × (b ≡ 1 → ⊥) × (b ≡ 2 → ⊥) × (b ≡ 6 → ⊥)
 
 -- the checks in the table's order: a byte, a byte of the table, glyphs due, length, operands, effect
 unfoldable pub stepAt : List ℕ → Cursor → Step

@@ -117,15 +117,12 @@ impl Cursor {
         }
     }
 
-    fn run(mut self, s: &[u8]) -> Step
-        requires { ⌜ self .at + 103 ≤ length (now s) ⌝ }
-        ensures { λ r. ⌜ r ≡ Steps.runStep (now (s .entry)) self ⌝ }
+    // A RUN that announces glyphs.
+    fn run(mut self, due: u64) -> Step
+        requires { ⌜ self .at + 103 < 2 ^ 64 ⌝ }
+        ensures { λ r. ⌜ r ≡ Steps.announce self due ⌝ }
     {
         let at = self.at;
-        let due = little_endian::u16_at(s, at + 101);
-        if due == 0 {
-            return self.draw(s, 103);
-        }
         if 4096 <= self.commands {
             return Step::Refused(6, at);
         }
@@ -134,6 +131,19 @@ impl Cursor {
         self.due = due;
         self.run = at;
         Step::Next(self)
+    }
+
+    // Any drawing command. One that announces no glyph is drawn, a RUN too: in one place, so that it is compiled into its caller.
+    fn draw_or_run(self, s: &[u8], b: u8) -> Step
+        requires { ⌜ (self .at + lengthOf b ≤ length (now s)) × Steps.Draws b ⌝ }
+        ensures { λ r. ⌜ r ≡ Steps.effectOf (now (s .entry)) self b ⌝ }
+    {
+        let at = self.at;
+        let due = announced(s, at, b);
+        if due == 0 {
+            return self.draw(s, strip_format::length_of(b));
+        }
+        self.run(due)
     }
 
     // The boxes of the run's glyphs up to this one, united. The first glyph stands right behind its RUN.
@@ -194,6 +204,18 @@ impl Cursor {
     }
 }
 
+// How many glyphs the command at an offset announces.
+fn announced(s: &[u8], at: usize, b: u8) -> u64
+    requires { ⌜ at + lengthOf b ≤ length (now s) ⌝ }
+    ensures { λ r. ⌜ r ≡ Steps.announced (now (s .entry)) at b ⌝ }
+{
+    if b == 5 {
+        little_endian::u16_at(s, at + 101)
+    } else {
+        0
+    }
+}
+
 fn due_fits(b: u8, due: u64) -> bool
     ensures { λ r. ⌜ r ≡ Steps.dueFits b due ⌝ }
 {
@@ -212,9 +234,8 @@ fn effect(s: &[u8], st: Cursor, b: u8) -> Step
         }
         1 => st.clip(s),
         2 => st.pop(),
-        5 => st.run(s),
         6 => st.glyph(s),
-        _ => st.draw(s, strip_format::length_of(b)),
+        _ => st.draw_or_run(s, b),
     }
 }
 

@@ -1,9 +1,7 @@
-use Rattle.strip.proofs.Effects.{due-glyph}
-use Rattle.strip.specs.Steps.{drawStep}
 use Rattle.strip_format.specs.Format.{lengthOf}
 use native.Mathlib.Omega.{arith}
-use mathlib.Core.Path.{ap, _∙_}
-use Rattle.strip.proofs.Effects.{effect-end, effect-clip, effect-pop, effect-run, effect-glyph, effect-draw}
+use mathlib.Core.Path.{_∙_}
+use Rattle.strip.proofs.Effects.{due-glyph, effect-end, effect-clip, effect-pop, effect-glyph}
 use borrow.Author.Needs.{needs}
 use Rattle.strip.proofs.effect.Statement.{statement}
 use Rattle.strip.proofs.effect.Tie as tie
@@ -12,13 +10,9 @@ clip-requires : tie.Need-clip-requires
 unfolding lengthOf
 clip-requires c κs = omega (arith, rw (c .match .keys2) at (c .before .before .pre .0))
 
-run-requires : tie.Need-run-requires
-unfolding lengthOf
-run-requires c κs = omega (arith, rw (c .match .keys4) at (c .before .before .pre .0))
-
 glyph-requires : tie.Need-glyph-requires
 unfolding lengthOf
-glyph-requires c κs = (omega (arith, rw (c .match .keys5) at (c .before .before .pre .0)), due-glyph _ _ (c .match .keys5) (c .before .before .pre .1))
+glyph-requires c κs = (omega (arith, rw (c .match .keys4) at (c .before .before .pre .0)), due-glyph _ _ (c .match .keys4) (c .before .before .pre .1))
 
 returns : tie.Need-returns
 returns c = effect-end _ _ _ (c .before .match .keys1)
@@ -30,17 +24,11 @@ returns-3 : tie.Need-returns-3
 returns-3 c = c .pop .ensures ∙ effect-pop _ _ _ (c .before .match .keys3)
 
 returns-4 : tie.Need-returns-4
-returns-4 c = c .run .ensures ∙ effect-run _ _ _ (c .before .match .keys4)
-
-returns-5 : tie.Need-returns-5
-returns-5 c = c .glyph .ensures ∙ effect-glyph _ _ _ (c .before .match .keys5)
-
-returns-6 : tie.Need-returns-6
-returns-6 c = c .draw .ensures ∙ ap (λ n. drawStep (c .before .before .before .before .args .s .now) (c .before .before .before .before .args .st) n) (c .before .length-of .ensures) ∙ effect-draw _ _ _ (c .before .before .match .rest .0 .0 .0 .0 .1) (c .before .before .match .rest .0 .0 .0 .1) (c .before .before .match .rest .0 .0 .1) (c .before .before .match .rest .0 .1) (c .before .before .match .rest .1)
+returns-4 c = c .glyph .ensures ∙ effect-glyph _ _ _ (c .before .match .keys4)
 
 pub effect-spec : {M : Type 1} → statement M
 effect-spec =
     tie.close
     (tie.spec
-    (λ c. search needs) clip-requires (λ c κs. search needs) run-requires glyph-requires (λ c κs. tt) (λ c κs. search needs)
-    returns returns-2 returns-3 returns-4 returns-5 returns-6)
+    (λ c. search needs) clip-requires (λ c κs. search needs) glyph-requires (λ c κs. search needs) returns returns-2 returns-3
+    returns-4 (λ c. search needs))
