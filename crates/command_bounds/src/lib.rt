@@ -1,6 +1,7 @@
 // The affine and the box of the drawing command at an offset, read where they stand: the command itself is not built. Each
 // equals what the command of `strip_format::command_at` answers.
 ghost use mathlib.Core.Path.{_≡_};
+ghost use Rattle.affine.specs.Affines.{tryTransform};
 ghost use Rattle.commands.specs.Bounds as Bounds;
 ghost use Rattle.strip_format.specs.Format.{commandAt};
 ghost use Prim.Native.Nat.{_+_, _≤_};
@@ -24,7 +25,7 @@ fn kind_at(s: &[u8], at: usize) -> u8
     b
 }
 
-pub fn transform_at(s: &[u8], at: usize) -> Affine
+fn transform_at(s: &[u8], at: usize) -> Affine
     ensures { λ r. ⌜ r ≡ Bounds.transformOf (commandAt (now (s .entry)) at) ⌝ }
 {
     match kind_at(s, at) {
@@ -83,11 +84,19 @@ pub fn local_bounds_at(s: &[u8], at: usize, united: Rect) -> Rect
     }
 }
 
+// A box by the affine of the command at an offset, or word that a corner is not finite. All that transform a box by a command call
+// this one, so that reading the affine and using it are compiled together.
+pub fn transformed_at(s: &[u8], at: usize, rect: Rect) -> Transformed
+    ensures { λ r. ⌜ r ≡ tryTransform (Bounds.transformOf (commandAt (now (s .entry)) at)) rect ⌝ }
+{
+    let transform = transform_at(s, at);
+    transform.try_transform(rect)
+}
+
 // The transformed box before clipping, or word that a corner is not finite.
 pub fn try_bounds_at(s: &[u8], at: usize, united: Rect) -> Transformed
     ensures { λ r. ⌜ r ≡ Bounds.tryWith (commandAt (now (s .entry)) at) united ⌝ }
 {
-    let transform = transform_at(s, at);
     let local = local_bounds_at(s, at, united);
-    transform.try_transform(local)
+    transformed_at(s, at, local)
 }

@@ -12,7 +12,6 @@ use Rattle.strip_format.proofs.Lengths.{length-run}
 use Rattle.little_endian.specs.Words.{u16At}
 use Rattle.geometry.specs.declared.Rect.{Rect}
 use Rattle.geometry.specs.Boxes.{union}
-use Rattle.affine.specs.declared.Affine.{Affine}
 use Rattle.affine.specs.declared.Transformed.{Transformed}
 use Rattle.affine.specs.declared.Transformed.the-variants.{Finite, NotFinite}
 use Rattle.affine.specs.Affines.{tryTransform}
@@ -83,16 +82,13 @@ module _ (s : List ℕ) (st : Cursor) where
   last-more box u e h = ap (λ (v : Rect). Next (pastGlyph v)) e ∙ rw (ne-eqb (st .due) 1 h) refl
 
   -- the run's affine, as the code reads it, and what it makes of a box
-  module _ (m : Affine) (b : Rect) (r : Transformed) (q : m ≡ transformOf (commandAt s (st .run))) (e : r ≡ tryTransform m b) where
-    answer : tryTransform (transformOf (commandAt s (st .run))) b ≡ r
-    answer = ap (λ (a : Affine). tryTransform a b) (sym q) ∙ sym e
-
+  module _ (b : Rect) (r : Transformed) (e : r ≡ tryTransform (transformOf (commandAt s (st .run))) b) where
     last-by : (box : Rect) → b ≡ unite st box → st .due ≡ 1 → lastStep s st box ≡ onBox (st .at) r (λ whole. Draw (pastGlyph b) (st .run) whole)
     unfolding lastStep
     last-by box u h =
         rw (eq-eqb (st .due) 1 h) refl
         ∙ ap (λ (v : Rect). onBox (st .at) (tryTransform (transformOf (commandAt s (st .run))) v) (λ whole. Draw (pastGlyph v) (st .run) whole)) (sym u)
-        ∙ ap (λ (t : Transformed). onBox (st .at) t (λ whole. Draw (pastGlyph b) (st .run) whole)) answer
+        ∙ ap (λ (t : Transformed). onBox (st .at) t (λ whole. Draw (pastGlyph b) (st .run) whole)) (sym e)
 
     pub last-box : (box whole : Rect) → b ≡ unite st box → st .due ≡ 1 → r ≡ Finite whole → Draw (pastGlyph b) (st .run) whole ≡ lastStep s st box
     last-box box whole u h k = sym (last-by box u h ∙ ap (λ (t : Transformed). onBox (st .at) t (λ whole. Draw (pastGlyph b) (st .run) whole)) k)
@@ -105,7 +101,7 @@ module _ (s : List ℕ) (st : Cursor) where
     glyph-by u h =
         rw (lt-leb 16384 (st .glyphs) h) refl
         ∙ ap (λ (v : Rect). onBox (st .at) (tryTransform (transformOf (commandAt s (st .run))) v) (λ own. lastStep s st v)) (sym u)
-        ∙ ap (λ (t : Transformed). onBox (st .at) t (λ own. lastStep s st b)) answer
+        ∙ ap (λ (t : Transformed). onBox (st .at) t (λ own. lastStep s st b)) (sym e)
 
     pub glyph-box : (own : Rect) → b ≡ rectAt s (st .at + 13) → st .glyphs < 16384 → r ≡ Finite own → lastStep s st b ≡ glyphStep s st
     glyph-box own u h k = sym (glyph-by u h ∙ ap (λ (t : Transformed). onBox (st .at) t (λ own. lastStep s st b)) k)

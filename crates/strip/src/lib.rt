@@ -176,8 +176,7 @@ impl Cursor {
         self.due = due - 1;
         self.united = united;
         if due == 1 {
-            let transform = command_bounds::transform_at(s, run);
-            match transform.try_transform(united) {
+            match command_bounds::transformed_at(s, run, united) {
                 Transformed::Finite(whole) => Step::Draw(self, run, whole),
                 Transformed::NotFinite => Step::Refused(9, at),
             }
@@ -196,8 +195,7 @@ impl Cursor {
             return Step::Refused(6, at);
         }
         let bounds = strip_format::rect_at(s, at + 13);
-        let transform = command_bounds::transform_at(s, run);
-        match transform.try_transform(bounds) {
+        match command_bounds::transformed_at(s, run, bounds) {
             Transformed::Finite(_) => self.last(s, bounds),
             Transformed::NotFinite => Step::Refused(9, at),
         }
