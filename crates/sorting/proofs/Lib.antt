@@ -2,4 +2,5 @@
 pub mod Sorts
 pub mod Ascents
 pub mod Merges
+pub mod Insertions
 mod Examples
