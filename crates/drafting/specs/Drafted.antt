@@ -53,12 +53,13 @@ abbrev pub StandsIf : Plan → Draft → List Float → List ℕ → List ℕ �
 StandsIf r d rs gs ws = accepted r ≡ true → Stands d rs gs ws
 
 -- the scratch is long enough for what is said to be lent, and the commands stand in it
-pub record Ready (w h b : ℕ) (rs : List Float) (ibs : List Float) (first commands : ℕ) (work spare gs ws : List ℕ) (z : Lent) : Type 0 where
+pub record Ready (w h b : ℕ) (rs : List Float) (ibs : List Float) (first commands : ℕ) (work spare spans gs ws : List ℕ) (z : Lent) : Type 0 where
   pub sizes : Schedule.Sizes w h b
   pub few : commands ≤ 4096
   pub boxes : 4 * (first + commands) ≤ length ibs
   pub rect-room : 4 * z .rects ≤ length rs
   pub work-room : z .rects ≤ length work
   pub spare-room : z .rects ≤ length spare
+  pub span-room : commands ≤ length spans
   pub region-room : 4 * z .regions ≤ length gs
   pub word-room : z .words ≤ length ws

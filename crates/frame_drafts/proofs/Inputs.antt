@@ -74,13 +74,16 @@ module _ (s : List ℕ) (w h b : ℕ) (z y : Space) (glyphs : List ℕ) (R G W :
       next-over e rs gs ws = rw (sym (sym q ∙ a)) (no-items (lentFor z glyphs R G W) _ _ (sym (items-same z y glyphs R G W _ l) ∙ sym f ∙ e), λ u. untrue u)
 
       module _ (e : t ≡ true) where
+        both-fit : Room (old .clips + new .clips) (old .commands + new .commands) y
+        both-fit = items-room y glyphs _ (sym f ∙ e)
+
         two : Two s old new y
-        two = subst (RecordsBoth s y) q k (items-room y glyphs _ (sym f ∙ e))
+        two = subst (RecordsBoth s y) q k both-fit
 
         pub next-stored : Stored (old .commands + new .commands) s (y .boxes) (y .below) (y .items) (y .item-boxes) × (old .commands ≤ 4096) × (new .commands ≤ 4096)
         next-stored = (two .held .stored, next-within .0 .commands, next-within .1 .commands)
 
-        pub next-ready : Sizes w h b → (before rs : List Float) (n : ℕ) (d : List Rect) → Listed before d rs n → (work spare gs ws : List ℕ) → Roomy before work spare gs ws R G W → Ready w h b rs (y .item-boxes) (old .commands) (new .commands) work spare gs ws (rooms R G W)
+        pub next-ready : Sizes w h b → (before rs : List Float) (n : ℕ) (d : List Rect) → Listed before d rs n → (work spare gs ws : List ℕ) → Roomy before work spare gs ws R G W → Ready w h b rs (y .item-boxes) (old .commands) (new .commands) work spare (y .items) gs ws (rooms R G W)
         next-ready S before rs n d x work spare gs ws m = record {
           sizes = S;
           few = next-within .1 .commands;
@@ -88,6 +91,7 @@ module _ (s : List ℕ) (w h b : ℕ) (z y : Space) (glyphs : List ℕ) (R G W :
           rect-room = omega (arith, m .rect-room, x .size);
           work-room = m .work-room;
           spare-room = m .spare-room;
+          span-room = omega (arith, both-fit .items);
           region-room = m .region-room;
           word-room = m .word-room;
         }
@@ -117,8 +121,11 @@ module _ (s : List ℕ) (w h b : ℕ) (z y : Space) (glyphs : List ℕ) (R G W :
       first-over e rs gs ws = rw (sym (sym q ∙ a)) (no-items (lentFor z glyphs R G W) _ _ (sym (items-same z y glyphs R G W _ l) ∙ sym f ∙ e), λ u. untrue u)
 
       module _ (e : t ≡ true) where
+        one-fits : Room (new .clips) (new .commands) y
+        one-fits = items-room y glyphs _ (sym f ∙ e)
+
         one : Holds (new .clips) (new .commands) s y × (commandsIn s (y .boxes) (y .below) (y .items) 0 (new .commands) ≡ commandsOf s 12)
-        one = subst (RecordsFirst s y) q k (items-room y glyphs _ (sym f ∙ e))
+        one = subst (RecordsFirst s y) q k one-fits
 
         stored : Stored (0 + new .commands) s (y .boxes) (y .below) (y .items) (y .item-boxes)
         stored = let c : new .commands ≡ 0 + new .commands = omega arith in subst (λ (n : ℕ). Stored n s (y .boxes) (y .below) (y .items) (y .item-boxes)) c (one .0 .stored)
@@ -127,7 +134,7 @@ module _ (s : List ℕ) (w h b : ℕ) (z y : Space) (glyphs : List ℕ) (R G W :
           screen : Listed before (screenRect w h ∷ []) rs n
           screen = subst (λ (d : Rect). Listed before (d ∷ []) rs n) (λ i. record { x0 = zero-whole i; y0 = zero-whole i; x1 = wide i; y1 = high i }) (listed 1 before _ rs n x)
 
-          pub first-ready : Sizes w h b → (work spare gs ws : List ℕ) → Roomy before work spare gs ws R G W → Ready w h b rs (y .item-boxes) 0 (new .commands) work spare gs ws (rooms R G W)
+          pub first-ready : Sizes w h b → (work spare gs ws : List ℕ) → Roomy before work spare gs ws R G W → Ready w h b rs (y .item-boxes) 0 (new .commands) work spare (y .items) gs ws (rooms R G W)
           first-ready S work spare gs ws m = record {
             sizes = S;
             few = first-within s r a new q .commands;
@@ -135,6 +142,7 @@ module _ (s : List ℕ) (w h b : ℕ) (z y : Space) (glyphs : List ℕ) (R G W :
             rect-room = omega (arith, m .rect-room, screen .size);
             work-room = m .work-room;
             spare-room = m .spare-room;
+            span-room = omega (arith, one-fits .items);
             region-room = m .region-room;
             word-room = m .word-room;
           }

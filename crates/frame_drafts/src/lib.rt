@@ -90,6 +90,7 @@ fn draft_first(
                     y1: std::num::nearest_u64_to_f64(height as u64),
                 };
                 let n = rect_list::append(rects, 0, screen);
+                // The items are not read again, so that their space can hold the rows of the commands.
                 return drafting::draft(
                     width,
                     height,
@@ -104,6 +105,7 @@ fn draft_first(
                     word_room,
                     work,
                     spare,
+                    items,
                     regions,
                     words,
                 );
@@ -165,6 +167,7 @@ fn draft_next(
                     new_commands as usize,
                     rects,
                 );
+                // The comparison was the last to read the items: their space can hold the rows of the commands.
                 return drafting::draft(
                     width,
                     height,
@@ -179,6 +182,7 @@ fn draft_next(
                     word_room,
                     work,
                     spare,
+                    items,
                     regions,
                     words,
                 );
