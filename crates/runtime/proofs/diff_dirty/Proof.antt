@@ -51,28 +51,28 @@ same-placed-requires : tie.Need-same-placed-requires Inv-loop μ-loop
 same-placed-requires c κs = (standing _ _ _ _ _ _ (c .before .before .before .before .before .before .before .before .before .pre .0) _ (omega (arith, c .before .before .loop .inv .0, c .before .loop-test .taken)), standing _ _ _ _ _ _ (c .before .before .before .before .before .before .before .before .before .pre .0) _ (omega (arith, c .before .before .loop .inv .1, c .if1 .left)), rooted _ _ _ _ _ _ (c .before .before .before .before .before .before .before .before .before .pre .0) _ _ (omega (arith, c .before .before .loop .inv .0, c .before .loop-test .taken)) (omega (arith, c .before .before .loop .inv .1, c .if1 .left)), c .before .before .loop .inv .4)
 
 mul-known : tie.Need-mul-known Inv-loop μ-loop
-mul-known c = omega arith
+mul-known c = omega (arith, c .before .before .before .before .loop .inv .0, c .before .before .before .before .before .before .before .before .before .before .before .pre .1)
 
 add-known : tie.Need-add-known Inv-loop μ-loop
-add-known c = omega arith
+add-known c = omega (arith, c .before .before .before .before .loop .inv .0, c .before .before .before .before .before .before .before .before .before .before .before .pre .1)
 
 mul-known-2 : tie.Need-mul-known-2 Inv-loop μ-loop
-mul-known-2 c = omega arith
+mul-known-2 c = omega (arith, c .before .before .before .before .before .before .before .before .before .before .before .pre .0 .items, c .before .before .before .before .loop .inv .0, c .before .before .before .loop-test .taken)
 
 shared-slice-read-known : tie.Need-shared-slice-read-known Inv-loop μ-loop
-shared-slice-read-known c = omega arith
+shared-slice-read-known c = omega (arith, c .before .before .before .before .before .before .before .before .before .before .before .before .pre .0 .items, c .before .before .before .before .before .loop .inv .0, c .before .before .before .before .loop-test .taken)
 
 mul-other-known : tie.Need-mul-other-known Inv-loop μ-loop
-mul-other-known c = omega arith
+mul-other-known c = omega (arith, c .before .before .before .before .before .loop .inv .0, c .before .before .before .before .before .loop .inv .1, c .before .before .before .before .before .before .before .before .before .before .before .before .pre .1, c .before .before .before .before .before .before .before .before .before .before .before .before .pre .2)
 
 add-other-known : tie.Need-add-other-known Inv-loop μ-loop
-add-other-known c = omega arith
+add-other-known c = omega (arith, c .before .before .before .before .before .loop .inv .0, c .before .before .before .before .before .loop .inv .1, c .before .before .before .before .before .before .before .before .before .before .before .before .pre .1, c .before .before .before .before .before .before .before .before .before .before .before .before .pre .2)
 
 mul-other-known-2 : tie.Need-mul-other-known-2 Inv-loop μ-loop
-mul-other-known-2 c = omega arith
+mul-other-known-2 c = omega (arith, c .before .before .before .before .before .before .before .before .before .before .before .before .pre .0 .items, c .before .before .before .before .before .loop .inv .0, c .before .before .before .before .before .loop .inv .1, c .before .before .before .before .loop-test .taken, c .before .before .before .if1 .left)
 
 shared-slice-read-other-known : tie.Need-shared-slice-read-other-known Inv-loop μ-loop
-shared-slice-read-other-known c = omega arith
+shared-slice-read-other-known c = omega (arith, c .before .before .before .before .before .before .before .before .before .before .before .before .before .pre .0 .items, c .before .before .before .before .before .before .loop .inv .0, c .before .before .before .before .before .before .loop .inv .1, c .before .before .before .before .before .loop-test .taken, c .before .before .before .before .if1 .left)
 
 loop-less : tie.Need-loop-less Inv-loop μ-loop
 loop-less c = omega arith

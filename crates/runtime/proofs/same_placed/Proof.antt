@@ -1,6 +1,7 @@
 -- `runtime::same_placed` meets its contract: a command that is decoded is equal to itself. Assumes nothing.
 use mathlib.Core.Bool.{true≢false}
 use mathlib.Core.Path.{sym, _∙_}
+use native.Mathlib.Omega.{arith}
 use borrow.Author.Needs.{needs}
 use Rattle.runtime.proofs.Repeats.{same-equal}
 use Rattle.runtime.proofs.same_placed.Statement.{statement}
@@ -16,6 +17,6 @@ pub same-placed-spec : {M : Type 1} → statement M
 same-placed-spec =
     tie.close
     (tie.spec
-    (λ c. search needs) (λ c. search needs) (λ c. search needs) (λ c. search needs) (λ c. search needs) (λ c. search needs)
-    (λ c κs. search needs) (λ c. search needs) (λ c. search needs) (λ c. search needs) (λ c. search needs) (λ c. search needs)
-    (λ c. search needs) (λ c. search needs) (λ c. search needs) (λ c κs. search needs) returns returns-2)
+    (λ c. omega arith) (λ c. omega arith) (λ c. omega arith) (λ c. omega arith) (λ c. omega arith) (λ c. omega arith)
+    (λ c κs. search needs) (λ c. omega arith) (λ c. omega arith) (λ c. omega arith) (λ c. omega arith) (λ c. omega arith)
+    (λ c. omega arith) (λ c. omega arith) (λ c. omega arith) (λ c κs. search needs) returns returns-2)
