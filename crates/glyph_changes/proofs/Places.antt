@@ -7,13 +7,18 @@ use native.Mathlib.Omega.{arith}
 use lib.Dec.{eqb}
 use lib.Ieee.{Float}
 use borrow.Author.Tests.{ne-eqb}
+use Rattle.lists.proofs.Picks.{pick-true, pick-false}
+use Rattle.little_endian.specs.Same.{SameBytes}
 use Rattle.geometry.specs.declared.Rect.{Rect}
 use Rattle.geometry.specs.Boxes.{union}
 use Rattle.commands.specs.declared.Glyph.{Glyph}
 use Rattle.operand_equality.specs.Operands.{sameGlyph, equalGlyph, equalGlyphs}
+use Rattle.operand_equality.proofs.Selves.{glyph-self, equal-glyph-self}
 use Rattle.strip_format.specs.Format.{glyphAt, glyphsFrom}
+use Rattle.strip_format.proofs.Alike.{glyph-twice}
+use Rattle.strip_format.proofs.Numbers.{single-finite, rect-numbers}
 use Rattle.glyph_changes.specs.declared.Run.{Run}
-use Rattle.glyph_changes.specs.Runs.{windowed, boxesBy, changedBy}
+use Rattle.glyph_changes.specs.Runs.{windowed, boxesBy, changedAt, changedBy}
 
 back : (n : ℕ) → suc n - 1 ≡ n
 back n = omega arith
@@ -42,17 +47,31 @@ module _ (f g : Glyph → Rect) (s : List ℕ) where
   changed-old p zero q j h e = absurd (omega arith)
   changed-old p (suc i) q j h e = rw e
 
-  pub changed-same : (p i q j : ℕ) → 0 < i → (j ≡ 0 → ⊥) → sameGlyph (glyphAt s p) (glyphAt s q) ≡ true → changedBy f g (glyphsFrom s p i) (glyphsFrom s q j) ≡ changedBy f g (glyphsFrom s (p + 45) (i - 1)) (glyphsFrom s (q + 45) (j - 1))
+  pub changed-next : (p i q j : ℕ) → 0 < i → (j ≡ 0 → ⊥) → changedBy f g (glyphsFrom s p i) (glyphsFrom s q j) ≡ changedAt f g (glyphAt s p) (glyphAt s q) ++ changedBy f g (glyphsFrom s (p + 45) (i - 1)) (glyphsFrom s (q + 45) (j - 1))
   unfolding glyphsFrom changedBy
-  changed-same p zero q j h k e = absurd (omega arith)
-  changed-same p (suc i) q zero h k e = absurd (k refl)
-  changed-same p (suc i) q (suc j) h k e = rw (e, back i, back j)
+  changed-next p zero q j h k = absurd (omega arith)
+  changed-next p (suc i) q zero h k = absurd (k refl)
+  changed-next p (suc i) q (suc j) h k = rw (back i, back j)
 
-  pub changed-next : (p i q j : ℕ) (b : Rect) → 0 < i → (j ≡ 0 → ⊥) → sameGlyph (glyphAt s p) (glyphAt s q) ≡ false → b ≡ union (f (glyphAt s p)) (g (glyphAt s q)) → changedBy f g (glyphsFrom s p i) (glyphsFrom s q j) ≡ (b ∷ []) ++ changedBy f g (glyphsFrom s (p + 45) (i - 1)) (glyphsFrom s (q + 45) (j - 1))
-  unfolding glyphsFrom changedBy
-  changed-next p zero q j b h k e d = absurd (omega arith)
-  changed-next p (suc i) q zero b h k e d = absurd (k refl)
-  changed-next p (suc i) q (suc j) b h k e d = rw (e, d, back i, back j)
+  -- at one place
+  pub changed-none : (p q : ℕ) → sameGlyph (glyphAt s p) (glyphAt s q) ≡ true → [] ≡ changedAt f g (glyphAt s p) (glyphAt s q)
+  unfolding changedAt
+  changed-none p q e = sym (pick-true _ _ _ e)
+
+  pub changed-one : (p q : ℕ) {b : Rect} → sameGlyph (glyphAt s p) (glyphAt s q) ≡ false → b ≡ union (f (glyphAt s p)) (g (glyphAt s q)) → (b ∷ []) ≡ changedAt f g (glyphAt s p) (glyphAt s q)
+  unfolding changedAt
+  changed-one p q e d = ap (λ z. z ∷ []) d ∙ sym (pick-false _ _ _ e)
+
+-- ---- glyphs of the same bytes
+module _ (s : List ℕ) (p q : ℕ) (w : SameBytes s p q 45) where
+  there : glyphAt s p ≡ glyphAt s q
+  there = glyph-twice s p q 45 w (omega arith)
+
+  pub same-painted : sameGlyph (glyphAt s p) (glyphAt s q) ≡ true
+  same-painted = ap (sameGlyph (glyphAt s p)) (sym there) ∙ glyph-self (glyphAt s p) (single-finite s (p + 5)) (single-finite s (p + 9))
+
+  pub same-equal : equalGlyph (glyphAt s p) (glyphAt s q) ≡ true
+  same-equal = ap (equalGlyph (glyphAt s p)) (sym there) ∙ equal-glyph-self (glyphAt s p) (single-finite s (p + 5)) (single-finite s (p + 9)) (rect-numbers s (p + 13))
 
 -- ---- whether all are equal, from two places on
 module _ (s : List ℕ) where

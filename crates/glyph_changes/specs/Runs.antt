@@ -34,8 +34,12 @@ unfoldable pub boxesBy : (Glyph → Rect) → List Glyph → List Rect
 boxesBy f [] = []
 boxesBy f (g ∷ gs) = f g ∷ boxesBy f gs
 
--- "for each common place whose id, x or y differ, the union of both .. boxes; then the old remainder, then the new", of which only one is not empty
+-- what changed from one glyph to another at its place: nothing, or where "id, x or y differ, the union of both .. boxes"
+unfoldable pub changedAt : (Glyph → Rect) → (Glyph → Rect) → Glyph → Glyph → List Rect
+changedAt old new g h = pick (sameGlyph g h) [] (union (old g) (new h) ∷ [])
+
+-- "for each common place" that; "then the old remainder, then the new", of which only one is not empty
 unfoldable pub changedBy : (Glyph → Rect) → (Glyph → Rect) → List Glyph → List Glyph → List Rect
 changedBy old new [] hs = boxesBy new hs
 changedBy old new (g ∷ gs) [] = boxesBy old (g ∷ gs)
-changedBy old new (g ∷ gs) (h ∷ hs) = pick (sameGlyph g h) [] (union (old g) (new h) ∷ []) ++ changedBy old new gs hs
+changedBy old new (g ∷ gs) (h ∷ hs) = changedAt old new g h ++ changedBy old new gs hs

@@ -3,10 +3,10 @@
 ghost use mathlib.Core.Path.{_≡_};
 ghost use Prim.Native.Nat.{_+_, _*_, _≤_, _<_};
 ghost use lib.ListN.{length};
-ghost use Rattle.operand_equality.specs.Operands.{equalGlyphs};
-ghost use Rattle.strip_format.specs.Format.{glyphsFrom};
+ghost use Rattle.operand_equality.specs.Operands.{equalGlyph, equalGlyphs};
+ghost use Rattle.strip_format.specs.Format.{glyphAt, glyphsFrom};
 ghost use Rattle.rect_list.specs.Rects.{Added};
-ghost use Rattle.glyph_changes.specs.Runs.{glyphsOf, Inside, mostBoxes, windowed, boxesBy, changedBy};
+ghost use Rattle.glyph_changes.specs.Runs.{glyphsOf, Inside, mostBoxes, windowed, boxesBy, changedAt, changedBy};
 use affine::Affine;
 use commands::Glyph;
 use geometry::Rect;
@@ -18,6 +18,19 @@ pub struct Run {
     pub count: u32,
     pub transform: Affine,
     pub clip: u64,
+}
+
+// Whether the glyphs at two offsets are equal, with equal boxes. Most have the same bytes, and then none is decoded.
+fn equal_at(s: &[u8], p: usize, q: usize) -> bool
+    requires { ⌜ (p + 45 ≤ length (now s)) × (q + 45 ≤ length (now s)) ⌝ }
+    ensures { λ r. ⌜ r ≡ equalGlyph (glyphAt (now (s .entry)) p) (glyphAt (now (s .entry)) q) ⌝ }
+{
+    if little_endian::same_bytes(s, p, q, 45) {
+        return true;
+    }
+    let g = strip_format::glyph_at(s, p);
+    let h = strip_format::glyph_at(s, q);
+    operand_equality::equal_glyph(g, h)
 }
 
 // Whether two runs have equal glyphs, with equal boxes, and as many.
@@ -33,9 +46,7 @@ pub fn equal_glyphs(s: &[u8], old: Run, new: Run) -> bool
         if j == 0 {
             return false;
         }
-        let g = strip_format::glyph_at(s, p);
-        let h = strip_format::glyph_at(s, q);
-        if operand_equality::equal_glyph(g, h) {
+        if equal_at(s, p, q) {
             p += 45;
             q += 45;
             i -= 1;
@@ -83,6 +94,34 @@ fn append_glyph_bounds(
     m
 }
 
+// Appends what changed from the glyph at an offset to the one at another: nothing where they are painted alike, and
+// else the union of both boxes. Most have the same bytes, and then none is decoded.
+fn append_changed(
+    s: &[u8],
+    boxes: &[f64],
+    old: Run,
+    new: Run,
+    at: usize,
+    other: usize,
+    rects: &mut [f64],
+    n: usize,
+) -> usize
+    requires { ⌜ (8 * old .clip ≤ length (now boxes)) × (8 * new .clip ≤ length (now boxes)) × (at + 45 ≤ length (now s)) × (other + 45 ≤ length (now s)) × (n + 1 < 9223372036854775808) ⌝ }
+    ensures { λ r. ⌜ Added 1 (now (rects .entry)) n (changedAt (windowed (now (boxes .entry)) old) (windowed (now (boxes .entry)) new) (glyphAt (now (s .entry)) at) (glyphAt (now (s .entry)) other)) (now (rects .exit)) r ⌝ }
+{
+    if little_endian::same_bytes(s, at, other, 45) {
+        return n;
+    }
+    let g = strip_format::glyph_at(s, at);
+    let h = strip_format::glyph_at(s, other);
+    if operand_equality::glyph_eq(g, h) {
+        return n;
+    }
+    let b = window_bounds(boxes, old, g);
+    let c = window_bounds(boxes, new, h);
+    rect_list::append(rects, n, b.union(c))
+}
+
 // Appends the boxes of what changed from a run to another: at each common place whose glyphs are painted
 // differently the union of both boxes, and then the boxes of the glyphs that only one of them has.
 pub fn changed_glyph_bounds(
@@ -107,22 +146,11 @@ pub fn changed_glyph_bounds(
         }
         let p1 = p + 45;
         let q1 = q + 45;
-        let g = strip_format::glyph_at(s, p);
-        let h = strip_format::glyph_at(s, q);
-        if operand_equality::glyph_eq(g, h) {
-            p = p1;
-            q = q1;
-            i -= 1;
-            j -= 1;
-        } else {
-            let b = window_bounds(boxes, old, g);
-            let c = window_bounds(boxes, new, h);
-            m = rect_list::append(rects, m, b.union(c));
-            p = p1;
-            q = q1;
-            i -= 1;
-            j -= 1;
-        }
+        m = append_changed(s, boxes, old, new, p, q, rects, m);
+        p = p1;
+        q = q1;
+        i -= 1;
+        j -= 1;
     }
     append_glyph_bounds(s, boxes, new, q, j, rects, m)
 }

@@ -2,3 +2,4 @@
 pub mod Past
 pub mod Alike
 pub mod Parts
+pub mod Same

@@ -6,6 +6,9 @@ ghost use lib.ListN.{length, getD};
 ghost use lib.Ieee.{binary32, binary64, ofBits};
 ghost use lib.Ieee.Scale.{finite};
 ghost use Rattle.little_endian.specs.Words.{u16At, u32At, u64At, finiteOr, f32At, f64At};
+ghost use Rattle.little_endian.specs.Same.{SameBytes};
+ghost use mathlib.Core.Bool.{true};
+ghost use Prim.Native.Nat.{_+_, _≤_};
 
 fn wide(x: u8) -> u64
     ensures { λ r. ⌜ (r ≡ x) × (r < 256) ⌝ }
@@ -40,7 +43,14 @@ fn u32_cut(s: &[u8], at: usize) -> u64
         + 16777216 * wide(byte_at(s, at + 3))
 }
 
-// Where all four bytes are there, no byte is asked for its place.
+// A number whose bytes are all there: none is asked for its place. The functions named so are for those who have tested the length.
+pub fn u32_inside(s: &[u8], at: usize) -> u64
+    requires { ⌜ at + 4 ≤ length (now s) ⌝ }
+    ensures { λ r. ⌜ (r ≡ u32At (now (s .entry)) at) × (r < 2 ^ 32) ⌝ }
+{
+    wide(s[at]) + 256 * wide(s[at + 1]) + 65536 * wide(s[at + 2]) + 16777216 * wide(s[at + 3])
+}
+
 pub fn u32_at(s: &[u8], at: usize) -> u64
     ensures { λ r. ⌜ (r ≡ u32At (now (s .entry)) at) × (r < 2 ^ 32) ⌝ }
 {
@@ -50,7 +60,7 @@ pub fn u32_at(s: &[u8], at: usize) -> u64
     if s.len() - at < 4 {
         return u32_cut(s, at);
     }
-    wide(s[at]) + 256 * wide(s[at + 1]) + 65536 * wide(s[at + 2]) + 16777216 * wide(s[at + 3])
+    u32_inside(s, at)
 }
 
 fn u64_cut(s: &[u8], at: usize) -> u64
@@ -60,7 +70,13 @@ fn u64_cut(s: &[u8], at: usize) -> u64
     u32_at(s, at) + 4294967296 * u32_at(s, at + 4)
 }
 
-// The part that has all eight bytes says by its length that they are there.
+pub fn u64_inside(s: &[u8], at: usize) -> u64
+    requires { ⌜ at + 8 ≤ length (now s) ⌝ }
+    ensures { λ r. ⌜ r ≡ u64At (now (s .entry)) at ⌝ }
+{
+    u32_inside(s, at) + 4294967296 * u32_inside(s, at + 4)
+}
+
 pub fn u64_at(s: &[u8], at: usize) -> u64
     ensures { λ r. ⌜ r ≡ u64At (now (s .entry)) at ⌝ }
 {
@@ -70,8 +86,7 @@ pub fn u64_at(s: &[u8], at: usize) -> u64
     if s.len() - at < 8 {
         return u64_cut(s, at);
     }
-    let part = &s[at..at + 8];
-    u32_at(part, 0) + 4294967296 * u32_at(part, 4)
+    u64_inside(s, at)
 }
 
 // Whether a pattern is a finite f64's: its exponent is not all ones.
@@ -117,4 +132,67 @@ pub fn f32_at(s: &[u8], at: usize) -> f32
     ensures { λ r. ⌜ r ≡ f32At (now (s .entry)) at ⌝ }
 {
     value32(u32_at(s, at) as u32)
+}
+
+// Whether the f64 at an offset is finite.
+pub fn finite64_inside(s: &[u8], at: usize) -> bool
+    requires { ⌜ at + 8 ≤ length (now s) ⌝ }
+    ensures { λ r. ⌜ r ≡ finite (ofBits binary64 (u64At (now (s .entry)) at)) ⌝ }
+{
+    finite64(u64_inside(s, at))
+}
+
+pub fn finite32_inside(s: &[u8], at: usize) -> bool
+    requires { ⌜ at + 4 ≤ length (now s) ⌝ }
+    ensures { λ r. ⌜ r ≡ finite (ofBits binary32 (u32At (now (s .entry)) at)) ⌝ }
+{
+    finite32(u32_inside(s, at) as u32)
+}
+
+// A float that was found to be finite: it is not tested again.
+pub fn f64_inside(s: &[u8], at: usize) -> f64
+    requires { ⌜ (at + 8 ≤ length (now s)) × (finite (ofBits binary64 (u64At (now s) at)) ≡ true) ⌝ }
+    ensures { λ r. ⌜ r ≡ f64At (now (s .entry)) at ⌝ }
+{
+    f64::from_bits(u64_inside(s, at))
+}
+
+// True only where the n bytes from p on are those from q on. Eight at a time, so that fewer than eight that differ by
+// themselves are told by their numbers.
+pub fn same_bytes(s: &[u8], p: usize, q: usize, n: usize) -> bool
+    requires { ⌜ (p + n ≤ length (now s)) × (q + n ≤ length (now s)) ⌝ }
+    ensures { λ r. ⌜ (r ≡ true → SameBytes (now (s .entry)) p q n) ⌝ }
+{
+    let mut i = p;
+    let mut j = q;
+    let mut left = n;
+    while 8 <= left {
+        if u64_inside(s, i) == u64_inside(s, j) {
+            i += 8;
+            j += 8;
+            left -= 8;
+        } else {
+            return false;
+        }
+    }
+    same_tail(s, i, j, left)
+}
+
+fn same_tail(s: &[u8], p: usize, q: usize, n: usize) -> bool
+    requires { ⌜ (p + n ≤ length (now s)) × (q + n ≤ length (now s)) ⌝ }
+    ensures { λ r. ⌜ (r ≡ true → SameBytes (now (s .entry)) p q n) ⌝ }
+{
+    let mut i = p;
+    let mut j = q;
+    let mut left = n;
+    while 0 < left {
+        if s[i] == s[j] {
+            i += 1;
+            j += 1;
+            left -= 1;
+        } else {
+            return false;
+        }
+    }
+    true
 }

@@ -14,7 +14,7 @@ use Rattle.display_list.specs.Lists.{boxAt}
 use Rattle.changes.specs.Changes.{changedGlyphs, changedBounds, diffDirty}
 use Rattle.stored_lists.specs.Stored.{Stored, commandIn, commandsIn}
 use Rattle.stored_lists.proofs.Places.{commands-end, commands-next}
-use Rattle.glyph_changes.specs.Runs.{boxesBy, changedBy}
+use Rattle.glyph_changes.specs.Runs.{boxesBy, changedAt, changedBy}
 use Rattle.runtime.specs.Placed.{boxesIn}
 
 -- ---- runs
@@ -30,7 +30,7 @@ module _ (c d : Command) where
   only-old (g ∷ gs) = ap (λ z. glyphBounds c g ∷ z) (only-old gs)
 
   pub glyphs-are : (gs hs : List Glyph) → changedBy (glyphBounds c) (glyphBounds d) gs hs ≡ changedGlyphs c gs d hs
-  unfolding changedBy changedGlyphs
+  unfolding changedBy changedAt changedGlyphs
   glyphs-are [] [] = only-new []
   glyphs-are [] (h ∷ hs) = only-new (h ∷ hs)
   glyphs-are (g ∷ gs) [] = only-old (g ∷ gs)

@@ -1,13 +1,19 @@
 -- Commands of a list in lent space, decoded to be compared.
 use mathlib.Core.Path.{_≡_}
+use mathlib.Core.Bool.{true}
 use mathlib.Core.List.{List, [], _∷_}
-use Prim.Native.Nat.{ℕ, zero, suc, _+_, _≤_, _<_}
+use Prim.Native.Nat.{ℕ, zero, suc, _+_, _*_, _≤_, _<_}
+use lib.Dec.{eqb}
+use lib.ListN.{length, getD}
 use lib.Ieee.{Float}
+use Rattle.lists.specs.Pick.{pick}
+use Rattle.little_endian.specs.Words.{u16At}
 use Rattle.geometry.specs.declared.Rect.{Rect}
 use Rattle.commands.specs.Bounds.{Command, transformOf, glyphCount, bounds}
+use Rattle.operand_equality.specs.Operands.{sameClips}
 use Rattle.clips.specs.Chains.{chain, Clips}
 use Rattle.display_list.specs.Lists.{offsetAt, clipNumberAt, boxAt}
-use Rattle.strip_format.specs.Format.{commandAt}
+use Rattle.strip_format.specs.Format.{lengthOf, commandAt}
 use Rattle.stored_lists.specs.Stored.{Stored}
 use Rattle.glyph_changes.specs.declared.Run.{Run}
 use Rattle.glyph_changes.specs.Runs.{glyphsOf, Inside}
@@ -39,12 +45,24 @@ pub record Placed (used : ℕ) (s : List ℕ) (bs : List Float) (ns : List ℕ) 
   pub transform : a .run .transform ≡ transformOf (a .command)
   pub box : a .bounds ≡ bounds (standsFor s bs ns a)
 
+-- its words are there, and its bytes begin in the strip
+abbrev pub Standing : List ℕ → List ℕ → ℕ → Type 0
+Standing s is i = (2 * i + 2 ≤ length is) × (offsetAt is i < length s)
+
+-- how many bytes it has, its glyphs' among them
+unfoldable pub wholeLength : List ℕ → ℕ → ℕ
+wholeLength s at = pick (eqb (getD s at 0) 5) (103 + 45 * u16At s (at + 101)) (lengthOf (getD s at 0))
+
 -- ---- two commands
 pub record Pair (s : List ℕ) (bs : List Float) (ns : List ℕ) (a b : PlacedCommand) : Type 0 where
   pub used : ℕ
   pub clips : Clips used bs ns
   pub old : Placed used s bs ns a
   pub new : Placed used s bs ns b
+
+-- the clips up to two numbers are the same
+abbrev pub AlikeClips : List Float → List ℕ → ℕ → ℕ → Type 0
+AlikeClips bs ns x y = sameClips (chain bs ns x) (chain bs ns y) ≡ true
 
 -- ---- the boxes of n commands from place i on
 unfoldable pub boxesIn : List Float → ℕ → ℕ → List Rect

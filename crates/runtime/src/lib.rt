@@ -1,7 +1,8 @@
 // Dew's frame comparison, `changed_bounds` and `diff_dirty`, over two display lists in one lent space. Boxes of
 // what changed are appended to a list of their own; nothing else is stored.
 ghost use mathlib.Core.Path.{_≡_};
-ghost use mathlib.Core.Bool.{_&&_};
+ghost use mathlib.Core.Bool.{true, _&&_};
+ghost use mathlib.Core.List.{[]};
 ghost use Prim.Native.Nat.{_+_, _*_, _≤_, _<_};
 ghost use lib.ListN.{length};
 ghost use Rattle.commands.specs.Bounds.{glyphCount};
@@ -9,12 +10,13 @@ ghost use Rattle.operand_equality.specs.Operands.{sameClips};
 ghost use Rattle.clips.specs.Chains.{chain, Rooted};
 ghost use Rattle.equality.specs.Drawings as Drawings;
 ghost use Rattle.differences.specs.Differences.{rectSymmetricDifference};
-ghost use Rattle.display_list.specs.Lists.{offsetAt};
+ghost use Rattle.display_list.specs.Lists.{offsetAt, clipNumberAt};
+ghost use Rattle.strip.specs.Reading.{commandOf};
 ghost use Rattle.changes.specs.Changes.{changedBounds, diffDirty};
 ghost use Rattle.stored_lists.specs.Stored.{Stored, commandIn, commandsIn};
 ghost use Rattle.rect_list.specs.Rects.{Added, Listed};
 ghost use Rattle.glyph_changes.specs.Runs.{mostBoxes};
-ghost use Rattle.runtime.specs.Placed.{Both, placedAt, standsFor, Pair, boxesIn};
+ghost use Rattle.runtime.specs.Placed.{Both, placedAt, standsFor, Standing, wholeLength, Pair, AlikeClips, boxesIn};
 ghost use Rattle.runtime.specs.Work.{workOf};
 use commands::DrawCommand;
 use geometry::Rect;
@@ -205,6 +207,80 @@ fn append_bounds(
     m
 }
 
+// The length of the command at an offset, with its glyphs.
+fn whole_length(s: &[u8], at: usize) -> usize
+    requires { ⌜ at < length (now s) ⌝ }
+    ensures { λ r. ⌜ r ≡ wholeLength (now (s .entry)) at ⌝ }
+{
+    let b = s[at];
+    if b == 5 {
+        let count = little_endian::u16_at(s, at + 101) as usize;
+        return 103 + 45 * count;
+    }
+    strip_format::length_of(b)
+}
+
+// True only where the same command stands at both offsets, with the same glyphs: their bytes are the same, and nothing is
+// decoded.
+fn unchanged(s: &[u8], at: usize, other: usize) -> bool
+    requires { ⌜ (at < length (now s)) × (other < length (now s)) ⌝ }
+    ensures { λ r. ⌜ (r ≡ true → commandOf (now (s .entry)) at [] ≡ commandOf (now (s .entry)) other []) ⌝ }
+{
+    let n = whole_length(s, at);
+    if s.len() - at < n {
+        return false;
+    }
+    if s.len() - other < n {
+        return false;
+    }
+    little_endian::same_bytes(s, at, other, n)
+}
+
+// Whether the clips up to two numbers are equal, where those up to `known` and `other_known` are: most commands stand under the
+// same clips as the one before, and then no clip is compared again.
+fn clips_alike(
+    boxes: &[f64],
+    below: &[u64],
+    one: u64,
+    other: u64,
+    known: u64,
+    other_known: u64,
+) -> bool
+    requires { ⌜ Rooted (now boxes) (now below) one other × AlikeClips (now boxes) (now below) known «other_known» ⌝ }
+    ensures { λ r. ⌜ r ≡ sameClips (chain (now (boxes .entry)) (now (below .entry)) one) (chain (now (boxes .entry)) (now (below .entry)) other) ⌝ }
+{
+    if one == known {
+        if other == other_known {
+            return true;
+        }
+    }
+    clips::same_clips(boxes, below, one, other)
+}
+
+// True only where the commands at places i and j are equal.
+fn same_placed(
+    s: &[u8],
+    boxes: &[f64],
+    below: &[u64],
+    items: &[u64],
+    i: usize,
+    j: usize,
+    known: u64,
+    other_known: u64,
+) -> bool
+    requires { ⌜ Standing (now s) (now items) i × Standing (now s) (now items) j × Rooted (now boxes) (now below) (clipNumberAt (now items) i) (clipNumberAt (now items) j) × AlikeClips (now boxes) (now below) known «other_known» ⌝ }
+    ensures { λ r. ⌜ (r ≡ true → Drawings.equal (commandIn (now (s .entry)) (now (boxes .entry)) (now (below .entry)) (now (items .entry)) i) (commandIn (now (s .entry)) (now (boxes .entry)) (now (below .entry)) (now (items .entry)) j) ≡ true) ⌝ }
+{
+    let at = items[2 * i] as usize;
+    let other = items[2 * j] as usize;
+    if unchanged(s, at, other) {
+        let clip = items[2 * i + 1];
+        let other_clip = items[2 * j + 1];
+        return clips_alike(boxes, below, clip, other_clip, known, other_known);
+    }
+    false
+}
+
 // Lists the boxes of what changed from a display list to another, and answers how many they are. The old list is the
 // first `old` commands of the space, the new one the `new` commands behind them. Where `rects` is too short the
 // number is still right.
@@ -226,6 +302,8 @@ pub fn diff_dirty(
     let mut q = old;
     let mut i = old;
     let mut j = new;
+    let mut known = 0u64;
+    let mut other_known = 0u64;
     while 0 < i {
         if j == 0 {
             return append_bounds(item_boxes, p, i, rects, m);
@@ -234,11 +312,20 @@ pub fn diff_dirty(
         let q1 = q + 1;
         let i1 = i - 1;
         let j1 = j - 1;
-        m = changed_bounds(s, boxes, below, items, item_boxes, p, q, rects, m);
-        p = p1;
-        q = q1;
-        i = i1;
-        j = j1;
+        if same_placed(s, boxes, below, items, p, q, known, other_known) {
+            known = items[2 * p + 1];
+            other_known = items[2 * q + 1];
+            p = p1;
+            q = q1;
+            i = i1;
+            j = j1;
+        } else {
+            m = changed_bounds(s, boxes, below, items, item_boxes, p, q, rects, m);
+            p = p1;
+            q = q1;
+            i = i1;
+            j = j1;
+        }
     }
     append_bounds(item_boxes, q, j, rects, m)
 }

@@ -1,12 +1,13 @@
 -- Two rows of bytes, one with the first n bytes of the other from byte `by` on: boxes, affines, strokes and glyphs within those bytes are the same. Assumes nothing.
-use mathlib.Core.Path.{_≡_}
-use mathlib.Core.List.{List}
-use Prim.Native.Nat.{ℕ, _+_, _≤_, _<_}
+use mathlib.Core.Path.{_≡_, refl, sym, _∙_}
+use mathlib.Core.List.{List, _∷_}
+use Prim.Native.Nat.{ℕ, zero, suc, _+_, _*_, _≤_, _<_}
 use native.Mathlib.Omega.{arith}
 use lib.ListN.{getD}
 use Rattle.little_endian.proofs.Alike.{u32-same, u64-same, f32-same, f64-same}
-use Rattle.little_endian.proofs.Parts.{part, part-same}
-use Rattle.strip_format.specs.Format.{rectAt, affineAt, joinOf, capOf, strokeAt, glyphAt}
+use Rattle.little_endian.specs.Same.{SameBytes}
+use Rattle.little_endian.proofs.Parts.{part, part-same, part-twice}
+use Rattle.strip_format.specs.Format.{rectAt, affineAt, joinOf, capOf, strokeAt, glyphAt, glyphsFrom}
 
 module _ (s r : List ℕ) (by n : ℕ) (same : (i j : ℕ) → j ≡ by + i → i < n → getD s i 0 ≡ getD r j 0) where
   pub rect-same : (at to : ℕ) → to ≡ by + at → at + 32 ≤ n → rectAt s at ≡ rectAt r to
@@ -44,6 +45,23 @@ module _ (s r : List ℕ) (by n : ℕ) (same : (i j : ℕ) → j ≡ by + i → 
       let y = f32-same s r by n same (at + 9) (to + 9) (omega arith) (omega arith) in
       let b = rect-same (at + 13) (to + 13) (omega arith) (omega arith) in
       λ i. record { id = d i; x = x i; y = y i; bounds = b i }
+
+  pub glyphs-same : (m at to : ℕ) → to ≡ by + at → at + 45 * m ≤ n → glyphsFrom s at m ≡ glyphsFrom r to m
+  unfolding glyphsFrom
+  glyphs-same zero at to v h = refl
+  glyphs-same (suc m) at to v h = λ i. glyph-same-at at to v (omega arith) i ∷ glyphs-same m (at + 45) (to + 45) (omega arith) (omega arith) i
+
+-- in bytes that stand twice
+module _ (s : List ℕ) (p q n : ℕ) (w : SameBytes s p q n) where
+  pub glyph-twice : 45 ≤ n → glyphAt s p ≡ glyphAt s q
+  glyph-twice h =
+      sym (glyph-same-at (part s p n) s p n (part-same s p n) 0 p (omega arith) (omega arith))
+      ∙ glyph-same-at (part s p n) s q n (part-twice s p q n w) 0 q (omega arith) (omega arith)
+
+  pub glyphs-twice : (k m : ℕ) → k + 45 * m ≤ n → glyphsFrom s (p + k) m ≡ glyphsFrom s (q + k) m
+  glyphs-twice k m h =
+      sym (glyphs-same (part s p n) s p n (part-same s p n) m k (p + k) refl h)
+      ∙ glyphs-same (part s p n) s q n (part-twice s p q n w) m k (q + k) refl h
 
 -- in a part that holds them
 pub rect-in : (s : List ℕ) (at : ℕ) → rectAt (part s at 32) 0 ≡ rectAt s at

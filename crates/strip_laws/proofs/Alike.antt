@@ -1,5 +1,5 @@
 -- Two inputs, one with the first n bytes of the other from byte k on: what is decoded within those bytes is the same. Assumes nothing.
-use mathlib.Core.Path.{_≡_, refl, sym, ap, subst}
+use mathlib.Core.Path.{_≡_, refl, sym, ap, _∙_}
 use mathlib.Core.Bool.{Bool, true, false, _&&_}
 use mathlib.Core.List.{List}
 use Prim.Native.Nat.{ℕ, zero, suc, _+_, _*_, _≤_, _<_}
@@ -10,6 +10,8 @@ use lib.Ieee.{binary32, binary64, ofBits}
 use lib.Ieee.Scale.{finite}
 use borrow.Author.Tests.{le-leb, eqb-true}
 use Rattle.lists.specs.Pick.{pick}
+use Rattle.little_endian.specs.Same.{SameBytes}
+use Rattle.little_endian.proofs.Parts.{part, part-same, part-length, part-twice}
 use Rattle.little_endian.proofs.Alike.{u16-same, u32-same, u64-same, f32-same}
 use Rattle.commands.specs.declared.DrawCommand.the-variants.{FillPath, StrokePath, GlyphRun, Scene}
 use Rattle.strip_format.specs.Format.{lengthOf, fillAt, strokePathAt, runAt, sceneAt, commandAt}
@@ -113,3 +115,12 @@ module _ (s r : List ℕ) (by n : ℕ) (same : (i j : ℕ) → j ≡ by + i → 
       let w = finite-same 4 (at + 13) (to + 13) (omega arith) (omega arith) in
       ap four (λ i. u i && (y i && w i)))
       λ t. pick-both (eqb b 7) _ _ _ _ (λ t. let k = at-byte at n b 7 h (eqb-true b 7 t) in ap four (finite-same 10 (at + 25) (to + 25) (omega arith) (omega (arith, k, length-scene)))) (λ t. refl)
+
+-- bytes that stand twice, and are a command's, are the same command
+pub command-twice : (s : List ℕ) (p q n : ℕ) → SameBytes s p q n → lengthOf (getD s p 0) ≤ n → p + n ≤ length s → q + n ≤ length s → commandAt s p ≡ commandAt s q
+command-twice s p q n w h k l =
+    let m : length (part s p n) ≡ n = part-length s p n k in
+    let b : getD (part s p n) 0 0 ≡ getD s p 0 = part-same s p n 0 p (omega arith) (omega (arith, length-pos (getD s p 0))) in
+    let f : 0 + lengthOf (getD (part s p n) 0 0) ≤ n = rw b (omega arith) in
+    sym (command-same (part s p n) s p n (part-same s p n) 0 p (omega arith) f (omega arith) k)
+    ∙ command-same (part s p n) s q n (part-twice s p q n w) 0 q (omega arith) f (omega arith) l

@@ -3,45 +3,23 @@ use mathlib.Core.List.{List, [], _∷_}
 use Prim.Native.Nat.{ℕ, zero, suc, _+_, _-_}
 use lib.Dec.{leb, eqb}
 use lib.ListN.{length, getD}
-use lib.Ieee.{binary64, ofBits}
-use lib.Ieee.Bits.{ofBits-fits}
-use lib.Ieee.Scale.{finite}
 use Rattle.lists.specs.Members.{All}
-use Rattle.lists.proofs.Bools.{holds}
 use Rattle.lists.proofs.Picks.{pick-cases}
 use Rattle.lists.proofs.Members.{all-append, all-take}
-use Rattle.little_endian.specs.Words.{u64At, f64At, finiteOr}
 use Rattle.geometry.specs.declared.Rect.{Rect}
 use Rattle.geometry.proofs.Edges.{Edges}
 use Rattle.commands.specs.declared.DrawCommand.{DrawCommand}
 use Rattle.commands.specs.Bounds.{Command, glyphCount}
 use Rattle.commands.proofs.Finite.{Number}
-use Rattle.commands.proofs.Values.{Entries, DrawFloats, Floats}
-use Rattle.strip_format.specs.Format.{lengthOf, rectAt, affineAt, blank, commandAt, glyphsFrom}
+use Rattle.commands.proofs.Values.{DrawFloats, Floats}
+use Rattle.strip_format.specs.Format.{lengthOf, blank, commandAt, glyphsFrom}
+use Rattle.strip_format.proofs.Numbers.{zero-number, number-at, rect-numbers, entry-numbers}
 use Rattle.strip.specs.declared.Cursor.{Cursor}
 use Rattle.strip.specs.declared.Step.{Step}
 use Rattle.strip.specs.declared.Step.the-variants.{Next, Clip, Pop, Draw, End, Refused}
 use Rattle.strip.specs.Steps.{startAt, stepAt}
 use Rattle.strip_laws.proofs.Steps.{by-cases, Kept, list-keeps}
 use Rattle.strip.specs.Reading.{commandOf, Listing, noted, commandsOf}
-
--- ---- floats, by where they stand
-zero-number : Number (ofBits binary64 0)
-unfolding ofBits
-zero-number = (tt, ofBits-fits binary64 0)
-
-number-of : (n : ℕ) → Number (finiteOr binary64 n)
-unfolding finiteOr
-number-of n = pick-cases Number (finite (ofBits binary64 n)) (ofBits binary64 n) (ofBits binary64 0) (λ e. (holds (finite (ofBits binary64 n)) e, ofBits-fits binary64 n)) (λ e. zero-number)
-
-pub number-at : (s : List ℕ) (at : ℕ) → Number (f64At s at)
-number-at s at = number-of (u64At s at)
-
-pub rect-numbers : (s : List ℕ) (at : ℕ) → Edges Number (rectAt s at)
-rect-numbers s at = record { x0 = number-at s at; y0 = number-at s (at + 8); x1 = number-at s (at + 16); y1 = number-at s (at + 24) }
-
-entry-numbers : (s : List ℕ) (at : ℕ) → Entries Number (affineAt s at)
-entry-numbers s at = record { a = number-at s at; b = number-at s (at + 8); c = number-at s (at + 16); d = number-at s (at + 24); e = number-at s (at + 32); f = number-at s (at + 40) }
 
 -- ---- commands
 abbrev D : DrawCommand → Type 0

@@ -3,12 +3,11 @@ use mathlib.Core.Path.{_∙_}
 use Prim.Native.Nat.{_+_, _≤_}
 use native.Mathlib.Omega.{arith}
 use borrow.Author.Needs.{needs}
-use Rattle.operand_equality.specs.Operands.{sameGlyph}
-use Rattle.rect_list.proofs.Turns.{Going, going-start, going-add, going-skip, going-last, going-length}
-use Rattle.rect_list.proofs.Appends.{added-length}
 use Rattle.strip_format.specs.Format.{glyphsFrom}
-use Rattle.glyph_changes.proofs.Places.{changed-new, changed-old, changed-same, changed-next, windowed-by, told-by, united-by}
+use Rattle.rect_list.proofs.Appends.{added-length}
+use Rattle.rect_list.proofs.Turns.{Going, going-start, going-add, going-last, going-length}
 use Rattle.glyph_changes.specs.Runs.{Inside, glyphsOf, mostBoxes, windowed, changedBy}
+use Rattle.glyph_changes.proofs.Places.{changed-new, changed-old, changed-next}
 use Rattle.glyph_changes.proofs.changed_glyph_bounds.Statement.{statement}
 use Rattle.glyph_changes.proofs.changed_glyph_bounds.Tie as tie
 
@@ -30,7 +29,7 @@ loop-holds : tie.Need-loop-holds Inv-loop μ-loop
 loop-holds c = (c .before .before .before .before .before .pre .2, c .before .before .before .before .before .pre .3, search needs, going-start)
 
 append-glyph-bounds-requires : tie.Need-append-glyph-bounds-requires Inv-loop μ-loop
-append-glyph-bounds-requires c κs = (omega (arith, c .before .before .before .before .before .before .before .before .before .pre .0, c .before .before .before .before .before .before .before .before .before .pre .1), c .before .before .before .loop .inv .0, omega (arith, c .before .before .before .loop .inv .2, c .before .before .before .before .before .before .before .before .before .pre .4))
+append-glyph-bounds-requires c κs = (omega (arith, c .before .before .before .before .before .before .before .before .before .pre .0), c .before .before .before .loop .inv .0, omega (arith, c .before .before .before .loop .inv .2, c .before .before .before .before .before .before .before .before .before .pre .4))
 
 same-length : tie.Need-same-length Inv-loop μ-loop
 same-length c = added-length _ _ _ _ _ _ (c .before .before .append-glyph-bounds .ensures) ∙ going-length (c .before .before .before .before .before .before .loop .inv .3)
@@ -44,11 +43,8 @@ add-p1 c = omega (arith, c .before .before .loop .inv .0 (c .before .loop-test .
 add-q1 : tie.Need-add-q1 Inv-loop μ-loop
 add-q1 c = let k = c .before .before .loop .inv .1 (omega (arith, c .if1 .left)) in omega (arith, k, c .if1 .left)
 
-glyph-at-requires : tie.Need-glyph-at-requires Inv-loop μ-loop
-glyph-at-requires c κs = omega (arith, c .before .before .loop .inv .0 (c .before .loop-test .taken), c .before .loop-test .taken)
-
-glyph-at-requires-2 : tie.Need-glyph-at-requires-2 Inv-loop μ-loop
-glyph-at-requires-2 c κs = let k = c .before .before .before .loop .inv .1 (omega (arith, c .before .if1 .left)) in omega (arith, k, c .before .if1 .left)
+append-changed-requires : tie.Need-append-changed-requires Inv-loop μ-loop
+append-changed-requires c κs = let k = c .before .before .before .loop .inv .1 (omega (arith, c .before .if1 .left)) in (c .before .before .before .before .before .before .before .before .before .pre .0, c .before .before .before .before .before .before .before .before .before .pre .1, omega (arith, c .before .before .before .loop .inv .0 (c .before .before .loop-test .taken), c .before .before .loop-test .taken), omega (arith, k, c .before .if1 .left), omega (arith, c .before .before .before .loop .inv .2, c .before .before .loop-test .taken, c .before .before .before .before .before .before .before .before .before .pre .4))
 
 sub-i : tie.Need-sub-i Inv-loop μ-loop
 sub-i c = omega arith
@@ -60,31 +56,10 @@ loop-less : tie.Need-loop-less Inv-loop μ-loop
 loop-less c = omega arith
 
 loop-again : tie.Need-loop-again Inv-loop μ-loop
-loop-again c = (λ h. omega (arith, c .before .before .before .before .before .before .loop .inv .0 (c .before .before .before .before .before .loop-test .taken), c .before .before .before .before .before .loop-test .taken), λ h. let k = c .before .before .before .before .before .before .loop .inv .1 (omega (arith, c .before .before .before .before .if1 .left)) in omega (arith, k, c .before .before .before .before .if1 .left), omega (arith, c .before .before .before .before .before .before .loop .inv .2), going-skip (c .before .before .before .before .before .before .loop .inv .3) (changed-same _ _ _ _ _ _ _ (c .before .before .before .before .before .loop-test .taken) (c .before .before .before .before .if1 .left) (told-by sameGlyph (c .before .glyph-eq .ensures) (c .before .before .before .glyph-at .ensures) (c .before .before .glyph-at2 .ensures) (c .if2 .taken))))
-
-window-bounds-requires : tie.Need-window-bounds-requires Inv-loop μ-loop
-window-bounds-requires c κs = omega (arith, c .before .before .before .before .before .before .before .before .before .before .before .before .pre .0, c .before .before .before .before .before .before .before .before .before .before .before .before .pre .1)
-
-window-bounds-requires-2 : tie.Need-window-bounds-requires-2 Inv-loop μ-loop
-window-bounds-requires-2 c κs = omega (arith, c .before .before .before .before .before .before .before .before .before .before .before .before .before .pre .0, c .before .before .before .before .before .before .before .before .before .before .before .before .before .pre .1)
-
-append-requires : tie.Need-append-requires Inv-loop μ-loop
-append-requires c κs = omega (arith, c .before .before .before .before .before .before .before .before .before .before .loop .inv .2, c .before .before .before .before .before .before .before .before .before .loop-test .taken, c .before .before .before .before .before .before .before .before .before .before .before .before .before .before .before .before .pre .4)
-
-sub-i-2 : tie.Need-sub-i-2 Inv-loop μ-loop
-sub-i-2 c = omega arith
-
-sub-j-2 : tie.Need-sub-j-2 Inv-loop μ-loop
-sub-j-2 c = omega arith
-
-loop-less-2 : tie.Need-loop-less-2 Inv-loop μ-loop
-loop-less-2 c = omega arith
-
-loop-again-2 : tie.Need-loop-again-2 Inv-loop μ-loop
-loop-again-2 c = (λ h. omega (arith, c .before .before .before .before .before .before .before .before .before .before .before .before .before .loop .inv .0 (c .before .before .before .before .before .before .before .before .before .before .before .before .loop-test .taken), c .before .before .before .before .before .before .before .before .before .before .before .before .loop-test .taken), λ h. let k = c .before .before .before .before .before .before .before .before .before .before .before .before .before .loop .inv .1 (omega (arith, c .before .before .before .before .before .before .before .before .before .before .before .if1 .left)) in omega (arith, k, c .before .before .before .before .before .before .before .before .before .before .before .if1 .left), omega (arith, c .before .before .append .ensures .most, c .before .before .before .before .before .before .before .before .before .before .before .before .before .loop .inv .2, c .before .before .before .before .before .before .before .before .before .before .before .before .loop-test .taken), going-add (c .before .before .before .before .before .before .before .before .before .before .before .before .before .loop .inv .3) (changed-next _ _ _ _ _ _ _ _ (c .before .before .before .before .before .before .before .before .before .before .before .before .loop-test .taken) (c .before .before .before .before .before .before .before .before .before .before .before .if1 .left) (told-by sameGlyph (c .before .before .before .before .before .before .before .before .glyph-eq .ensures) (c .before .before .before .before .before .before .before .before .before .before .glyph-at .ensures) (c .before .before .before .before .before .before .before .before .before .glyph-at2 .ensures) (c .before .before .before .before .before .before .before .if2 .left)) (united-by (c .before .before .before .union .ensures) (windowed-by _ _ (c .before .before .before .before .before .before .window-bounds .ensures) (c .before .before .before .before .before .before .before .before .before .before .glyph-at .ensures)) (windowed-by _ _ (c .before .before .before .before .before .window-bounds2 .ensures) (c .before .before .before .before .before .before .before .before .before .glyph-at2 .ensures)))) (c .before .before .append .ensures))
+loop-again c = (λ h. omega (arith, c .before .before .before .before .before .before .loop .inv .0 (c .before .before .before .before .before .loop-test .taken), c .before .before .before .before .before .loop-test .taken), λ h. let k = c .before .before .before .before .before .before .loop .inv .1 (omega (arith, c .before .before .before .before .if1 .left)) in omega (arith, k, c .before .before .before .before .if1 .left), omega (arith, c .before .before .append-changed .ensures .most, c .before .before .before .before .before .before .loop .inv .2, c .before .before .before .before .before .loop-test .taken, c .before .before .before .before .if1 .left), going-add (c .before .before .before .before .before .before .loop .inv .3) (changed-next _ _ _ _ _ _ _ (c .before .before .before .before .before .loop-test .taken) (c .before .before .before .before .if1 .left)) (c .before .before .append-changed .ensures))
 
 append-glyph-bounds-requires-2 : tie.Need-append-glyph-bounds-requires-2 Inv-loop μ-loop
-append-glyph-bounds-requires-2 c κs = (omega (arith, c .before .before .before .before .before .before .before .before .pre .0, c .before .before .before .before .before .before .before .before .pre .1), c .before .before .loop .inv .1, omega (arith, c .before .before .loop .inv .2, c .before .before .before .before .before .before .before .before .pre .4))
+append-glyph-bounds-requires-2 c κs = (omega (arith, c .before .before .before .before .before .before .before .before .pre .1), c .before .before .loop .inv .1, omega (arith, c .before .before .loop .inv .2, c .before .before .before .before .before .before .before .before .pre .4))
 
 same-length-2 : tie.Need-same-length-2 Inv-loop μ-loop
 same-length-2 c = added-length _ _ _ _ _ _ (c .before .before .append-glyph-bounds2 .ensures) ∙ going-length (c .before .before .before .before .before .loop .inv .3)
@@ -96,7 +71,21 @@ pub changed-glyph-bounds-spec : {M : Type 1} → statement M
 changed-glyph-bounds-spec =
     tie.close
     (tie.spec
-    Inv-loop μ-loop cast-i cast-j loop-holds append-glyph-bounds-requires same-length returns add-p1 add-q1 glyph-at-requires
-    glyph-at-requires-2 (λ c κs. tt) sub-i sub-j loop-less loop-again window-bounds-requires window-bounds-requires-2
-    (λ c κs. tt) append-requires sub-i-2 sub-j-2 loop-less-2 loop-again-2 append-glyph-bounds-requires-2 same-length-2
+    Inv-loop
+    μ-loop
+    cast-i
+    cast-j
+    loop-holds
+    append-glyph-bounds-requires
+    same-length
+    returns
+    add-p1
+    add-q1
+    append-changed-requires
+    sub-i
+    sub-j
+    loop-less
+    loop-again
+    append-glyph-bounds-requires-2
+    same-length-2
     returns-2)

@@ -1,10 +1,10 @@
 -- `glyph_changes::equal_glyphs` meets its contract: what is left of both runs decides as the whole does. Assumes nothing.
 use mathlib.Core.Path.{_≡_, refl, sym, _∙_}
 use native.Mathlib.Omega.{arith}
-use Rattle.operand_equality.specs.Operands.{equalGlyph, equalGlyphs}
 use Rattle.strip_format.specs.Format.{glyphsFrom}
-use Rattle.glyph_changes.proofs.Places.{equal-end, equal-short, equal-next, equal-stop, told-by}
+use Rattle.operand_equality.specs.Operands.{equalGlyphs}
 use Rattle.glyph_changes.specs.Runs.{Inside}
+use Rattle.glyph_changes.proofs.Places.{equal-end, equal-short, equal-next, equal-stop}
 use Rattle.glyph_changes.proofs.equal_glyphs.Statement.{statement}
 use Rattle.glyph_changes.proofs.equal_glyphs.Tie as tie
 
@@ -26,17 +26,14 @@ loop-holds c = (c .before .before .before .pre .0, c .before .before .before .pr
 returns : tie.Need-returns Inv-loop μ-loop
 returns c = equal-short _ _ _ _ _ (c .before .loop-test .taken) (c .if1 .taken) ∙ c .before .before .loop .inv .2
 
-glyph-at-requires : tie.Need-glyph-at-requires Inv-loop μ-loop
-glyph-at-requires c κs = omega (arith, c .before .before .loop .inv .0 (c .before .loop-test .taken), c .before .loop-test .taken)
-
-glyph-at-requires-2 : tie.Need-glyph-at-requires-2 Inv-loop μ-loop
-glyph-at-requires-2 c κs = let k = c .before .before .before .loop .inv .1 (omega (arith, c .before .if1 .left)) in omega (arith, k, c .before .if1 .left)
+equal-at-requires : tie.Need-equal-at-requires Inv-loop μ-loop
+equal-at-requires c κs = let k = c .before .before .loop .inv .1 (omega (arith, c .if1 .left)) in (omega (arith, c .before .before .loop .inv .0 (c .before .loop-test .taken), c .before .loop-test .taken), omega (arith, k, c .if1 .left))
 
 add-p : tie.Need-add-p Inv-loop μ-loop
-add-p c = omega (arith, c .before .before .before .before .before .before .loop .inv .0 (c .before .before .before .before .before .loop-test .taken), c .before .before .before .before .before .loop-test .taken)
+add-p c = omega (arith, c .before .before .before .before .loop .inv .0 (c .before .before .before .loop-test .taken), c .before .before .before .loop-test .taken)
 
 add-q : tie.Need-add-q Inv-loop μ-loop
-add-q c = let k = c .before .before .before .before .before .before .loop .inv .1 (omega (arith, c .before .before .before .before .if1 .left)) in omega (arith, k, c .before .before .before .before .if1 .left)
+add-q c = let k = c .before .before .before .before .loop .inv .1 (omega (arith, c .before .before .if1 .left)) in omega (arith, k, c .before .before .if1 .left)
 
 sub-i : tie.Need-sub-i Inv-loop μ-loop
 sub-i c = omega arith
@@ -48,10 +45,10 @@ loop-less : tie.Need-loop-less Inv-loop μ-loop
 loop-less c = omega arith
 
 loop-again : tie.Need-loop-again Inv-loop μ-loop
-loop-again c = (λ h. omega (arith, c .before .before .before .before .before .before .loop .inv .0 (c .before .before .before .before .before .loop-test .taken), c .before .before .before .before .before .loop-test .taken), λ h. let k = c .before .before .before .before .before .before .loop .inv .1 (omega (arith, c .before .before .before .before .if1 .left)) in omega (arith, k, c .before .before .before .before .if1 .left), sym (equal-next _ _ _ _ _ (c .before .before .before .before .before .loop-test .taken) (c .before .before .before .before .if1 .left) (told-by equalGlyph (c .before .equal-glyph .ensures) (c .before .before .before .glyph-at .ensures) (c .before .before .glyph-at2 .ensures) (c .if2 .taken))) ∙ c .before .before .before .before .before .before .loop .inv .2)
+loop-again c = (λ h. omega (arith, c .before .before .before .before .loop .inv .0 (c .before .before .before .loop-test .taken), c .before .before .before .loop-test .taken), λ h. let k = c .before .before .before .before .loop .inv .1 (omega (arith, c .before .before .if1 .left)) in omega (arith, k, c .before .before .if1 .left), sym (equal-next _ _ _ _ _ (c .before .before .before .loop-test .taken) (c .before .before .if1 .left) (sym (c .before .equal-at .ensures) ∙ c .if2 .taken)) ∙ c .before .before .before .before .loop .inv .2)
 
 returns-2 : tie.Need-returns-2 Inv-loop μ-loop
-returns-2 c = equal-stop _ _ _ _ _ (c .before .before .before .before .before .loop-test .taken) (c .before .before .before .before .if1 .left) (told-by equalGlyph (c .before .equal-glyph .ensures) (c .before .before .before .glyph-at .ensures) (c .before .before .glyph-at2 .ensures) (c .if2 .left)) ∙ c .before .before .before .before .before .before .loop .inv .2
+returns-2 c = equal-stop _ _ _ _ _ (c .before .before .before .loop-test .taken) (c .before .before .if1 .left) (sym (c .before .equal-at .ensures) ∙ c .if2 .left) ∙ c .before .before .before .before .loop .inv .2
 
 returns-3 : tie.Need-returns-3 Inv-loop μ-loop
 returns-3 c = equal-end _ _ _ _ _ (c .loop-test .left) ∙ c .before .loop .inv .2
@@ -60,5 +57,18 @@ pub equal-glyphs-spec : {M : Type 1} → statement M
 equal-glyphs-spec =
     tie.close
     (tie.spec
-    Inv-loop μ-loop cast-i cast-j loop-holds returns glyph-at-requires glyph-at-requires-2 (λ c κs. tt) add-p add-q sub-i
-    sub-j loop-less loop-again returns-2 returns-3)
+    Inv-loop
+    μ-loop
+    cast-i
+    cast-j
+    loop-holds
+    returns
+    equal-at-requires
+    add-p
+    add-q
+    sub-i
+    sub-j
+    loop-less
+    loop-again
+    returns-2
+    returns-3)
