@@ -59,19 +59,26 @@ fn finite_point(p: Point) -> bool
     }
 }
 
-// The least box over four points, unless one is not finite. The points are tested and not the box,
-// since the larger and the smaller of two can hide a NaN.
-fn bound_finite(p: Point, q: Point, r: Point, s: Point) -> Transformed
-    ensures { λ z. ⌜ z ≡ Affines.boundFinite p q r s ⌝ }
+// Whether four points are finite. The points are tested and not their box, since the larger and the smaller of two can hide a NaN.
+fn all_finite(p: Point, q: Point, r: Point, s: Point) -> bool
+    ensures { λ z. ⌜ z ≡ Affines.allFinite p q r s ⌝ }
 {
     if finite_point(p) {
         if finite_point(q) {
             if finite_point(r) {
-                if finite_point(s) {
-                    return Transformed::Finite(bounding_box(p, q, r, s));
-                }
+                return finite_point(s);
             }
         }
+    }
+    false
+}
+
+// The least box over four points, unless one is not finite.
+fn bound_finite(p: Point, q: Point, r: Point, s: Point) -> Transformed
+    ensures { λ z. ⌜ z ≡ Affines.boundFinite p q r s ⌝ }
+{
+    if all_finite(p, q, r, s) {
+        return Transformed::Finite(bounding_box(p, q, r, s));
     }
     Transformed::NotFinite
 }
@@ -91,6 +98,18 @@ impl Affine {
         ensures { λ z. ⌜ z ≡ Affines.transformRectBbox self rect ⌝ }
     {
         bounding_box(
+            self.transform_point(rect.x0, rect.y0),
+            self.transform_point(rect.x1, rect.y0),
+            self.transform_point(rect.x0, rect.y1),
+            self.transform_point(rect.x1, rect.y1),
+        )
+    }
+
+    // Whether all four transformed corners are finite, where their box is not wanted.
+    pub fn finite_corners(self, rect: Rect) -> bool
+        ensures { λ z. ⌜ z ≡ Affines.finiteCorners self rect ⌝ }
+    {
+        all_finite(
             self.transform_point(rect.x0, rect.y0),
             self.transform_point(rect.x1, rect.y0),
             self.transform_point(rect.x0, rect.y1),
