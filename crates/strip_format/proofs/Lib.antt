@@ -3,3 +3,4 @@ pub mod Lengths
 pub mod Commands
 pub mod Past
 pub mod Alike
+mod Finite
