@@ -6,7 +6,8 @@ ghost use lib.ListN.{length};
 ghost use Rattle.strip_format.specs.Format.{lengthOf};
 ghost use Rattle.strip.specs.Steps as Steps;
 ghost use Rattle.strip.specs.Reading as Reading;
-ghost use Rattle.strip.specs.Effects.{settled};
+ghost use Rattle.strip.specs.Effects.{settled, GoesOn, Passes};
+use affine::Affine;
 use affine::Transformed;
 use geometry::Rect;
 
@@ -167,23 +168,33 @@ impl Cursor {
         united.union(bounds)
     }
 
+    // Past a glyph with this box.
+    fn past_glyph(mut self, bounds: Rect) -> Cursor
+        requires { ⌜ (self .at + 45 < 2 ^ 64) × (0 < self .due) × (self .glyphs < 16384) ⌝ }
+        ensures { λ r. ⌜ r ≡ Steps.glyphRead self bounds ⌝ }
+    {
+        let united = self.unite(bounds);
+        self.at = self.at + 45;
+        self.glyphs = self.glyphs + 1;
+        self.due = self.due - 1;
+        self.united = united;
+        self
+    }
+
     // The glyph with this box, once its own corners are known to be finite.
-    fn last(mut self, s: &[u8], bounds: Rect) -> Effect
+    fn last(self, s: &[u8], bounds: Rect) -> Effect
         requires { ⌜ (self .at + 45 ≤ length (now s)) × (0 < self .due) × (self .glyphs < 16384) ⌝ }
         ensures { λ r. ⌜ settled (now (s .entry)) r ≡ Steps.lastStep (now (s .entry)) self bounds ⌝ }
     {
         let at = self.at;
         let run = self.run;
         let due = self.due;
-        let united = self.unite(bounds);
-        self.at = at + 45;
-        self.glyphs = self.glyphs + 1;
-        self.due = due - 1;
-        self.united = united;
+        let next = self.past_glyph(bounds);
+        let united = next.united;
         if due == 1 {
-            Effect::Drawn(self, run, at, united)
+            Effect::Drawn(next, run, at, united)
         } else {
-            Effect::Done(Step::Next(self))
+            Effect::Done(Step::Next(next))
         }
     }
 
@@ -223,7 +234,7 @@ fn due_fits(b: u8, due: u64) -> bool
     if b == 6 { 0 < due } else { due == 0 }
 }
 
-fn effect(s: &[u8], st: Cursor, b: u8) -> Effect
+fn effect_of(s: &[u8], st: Cursor, b: u8) -> Effect
     requires { ⌜ (st .at + lengthOf b ≤ length (now s)) × (Steps.dueFits b (st .due) ≡ true) ⌝ }
     ensures { λ r. ⌜ settled (now (s .entry)) r ≡ Steps.effectOf (now (s .entry)) st b ⌝ }
 {
@@ -274,7 +285,7 @@ pub fn take_step(s: &[u8], st: Cursor) -> Step
         }
         let number = operand_checks::operands(s, at, b);
         if number == 0 {
-            settle(s, effect(s, st, b))
+            settle(s, effect_of(s, st, b))
         } else {
             Step::Refused(number, at)
         }
@@ -283,52 +294,49 @@ pub fn take_step(s: &[u8], st: Cursor) -> Step
     }
 }
 
-// The cursor past the glyphs at it that are due, pass and are not the last of their run: as many steps at once, with the run's affine
-// read for all of them. It stops in front of the first that a step is to look at.
+// True only where a glyph that is due stands at the cursor, is not the last of its run and passes, by the run's affine.
+fn glyph_goes_on(s: &[u8], st: Cursor, transform: Affine) -> bool
+    ensures { λ r. ⌜ (r ≡ true → GoesOn (now (s .entry)) st transform) ⌝ }
+{
+    let at = st.at;
+    if st.due < 2 {
+        return false;
+    }
+    if s.len() <= at {
+        return false;
+    }
+    if s.len() - at < 45 {
+        return false;
+    }
+    if s[at] != 6 {
+        return false;
+    }
+    if 16384 <= st.glyphs {
+        return false;
+    }
+    if operand_checks::glyph_passes(s, at) {
+        let bounds = strip_format::rect_inside(s, at + 13);
+        return transform.finite_corners(bounds);
+    }
+    false
+}
+
+// Past the glyphs at the cursor that only move it: as many steps at once, with the run's affine read once for all of them.
 pub fn pass_glyphs(s: &[u8], st: Cursor) -> Cursor
+    ensures { λ r. ⌜ Passes (now (s .entry)) st r ⌝ }
 {
     let run = st.run;
-    let mut at = st.at;
-    let mut due = st.due;
-    let mut glyphs = st.glyphs;
-    let mut united = st.united;
-    if due < 2 {
+    if st.due < 2 {
         return st;
     }
     let transform = command_bounds::transform_at(s, run);
-    while 1 < due {
-        if s.len() <= at {
-            break;
-        }
-        if s.len() - at < 45 {
-            break;
-        }
-        if s[at] == 6 {
-        } else {
-            break;
-        }
-        if 16384 <= glyphs {
-            break;
-        }
-        if operand_checks::glyph_passes(s, at) {
-        } else {
-            break;
-        }
-        let r = strip_format::rect_inside(s, at + 13);
-        if transform.finite_corners(r) {
-        } else {
-            break;
-        }
-        if at == run + 103 {
-            united = r;
-        } else {
-            united = united.union(r);
-        }
-        at += 45;
-        due -= 1;
-        glyphs += 1;
+    let mut next = st;
+    while glyph_goes_on(s, next, transform) {
+        let at = next.at;
+        let bounds = strip_format::rect_inside(s, at + 13);
+        next = next.past_glyph(bounds);
     }
-    Cursor { at, depth: st.depth, clips: st.clips, commands: st.commands, glyphs, due, run, united }
+    next
 }
 
 // Reads a strip from an offset to its END.
