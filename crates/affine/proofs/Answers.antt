@@ -1,31 +1,48 @@
 -- What the tests in the code of this crate make of a definition. Assumes nothing.
-use mathlib.Core.Path.{_≡_, sym}
-use mathlib.Core.Bool.{true, false}
+use mathlib.Core.Path.{_≡_, refl, sym, ap, _∙_}
+use mathlib.Core.Bool.{Bool, true, false, _&&_}
+use lib.Ieee.{Float, binary64, add, sub, eq, ofBits}
+use lib.Ieee.Scale.{finite}
+use Rattle.ieee.proofs.Differences.{told, less-itself, told-both, told-zero}
 use Rattle.lists.proofs.Picks.{pick-true, pick-false}
-use Rattle.lists.proofs.Bools.{four-on, off-1, off-2, off-3}
 use Rattle.geometry.specs.declared.Rect.{Rect}
 use Rattle.affine.specs.declared.Affine.{Affine}
 use Rattle.affine.specs.declared.Point.{Point}
 use Rattle.affine.specs.declared.Transformed.the-variants.{Finite, NotFinite}
-use Rattle.affine.specs.Affines.{finitePoint, allFinite, boundingBox, boundFinite, finiteCorners, transformRectBbox, tryTransform}
+use Rattle.affine.specs.Affines.{_⊕_, finitePoint, allFinite, boundingBox, boundFinite, finiteCorners, transformRectBbox, tryTransform}
+
+infixl 60 _⊖_
+-- the difference of two f64, rounded once
+abbrev _⊖_ : Float → Float → Float
+x ⊖ y = sub binary64 x y
+
+-- ---- one sum for the test of eight numbers
+-- tests in twos, the other way about
+and-cross : (a b c d : Bool) → (a && b && (c && d)) ≡ (a && c && (b && d))
+and-cross true true c d = refl
+and-cross true false true d = refl
+and-cross true false false d = refl
+and-cross false b c d = refl
+
+add-told : {x y : Float} (a b : Bool) → x ≡ told a → y ≡ told b → add binary64 x y ≡ told (a && b)
+add-told a b e f = (λ i. add binary64 (e i) (f i)) ∙ told-both a b
+
+four-told : (a b c d : Float) → (a ⊖ a) ⊕ (b ⊖ b) ⊕ (c ⊖ c) ⊕ (d ⊖ d) ≡ told (finite a && finite b && finite c && finite d)
+four-told a b c d =
+    add-told (finite a && finite b && finite c) (finite d)
+    (add-told (finite a && finite b) (finite c) (add-told (finite a) (finite b) (less-itself a) (less-itself b)) (less-itself c))
+    (less-itself d)
 
 module _ (p q r s : Point) where
-  -- the last point decides where the others are finite; else the first that is not
-  pub all-on : finitePoint p ≡ true → finitePoint q ≡ true → finitePoint r ≡ true → finitePoint s ≡ allFinite p q r s
-  unfolding allFinite
-  all-on = four-on (finitePoint p) (finitePoint q) (finitePoint r) (finitePoint s)
-
-  pub all-off-1 : finitePoint p ≡ false → false ≡ allFinite p q r s
-  unfolding allFinite
-  all-off-1 e = sym (off-1 (finitePoint p) (finitePoint q) (finitePoint r) (finitePoint s) e)
-
-  pub all-off-2 : finitePoint q ≡ false → false ≡ allFinite p q r s
-  unfolding allFinite
-  all-off-2 e = sym (off-2 (finitePoint p) (finitePoint q) (finitePoint r) (finitePoint s) e)
-
-  pub all-off-3 : finitePoint r ≡ false → false ≡ allFinite p q r s
-  unfolding allFinite
-  all-off-3 e = sym (off-3 (finitePoint p) (finitePoint q) (finitePoint r) (finitePoint s) e)
+  pub sum-tells : eq ((p .x ⊖ p .x) ⊕ (q .x ⊖ q .x) ⊕ (r .x ⊖ r .x) ⊕ (s .x ⊖ s .x) ⊕ ((p .y ⊖ p .y) ⊕ (q .y ⊖ q .y) ⊕ (r .y ⊖ r .y) ⊕ (s .y ⊖ s .y))) (ofBits binary64 0) ≡ allFinite p q r s
+  unfolding allFinite finitePoint
+  sum-tells =
+      ap (λ (z : Float). eq z (ofBits binary64 0)) (add-told (finite (p .x) && finite (q .x) && finite (r .x) && finite (s .x)) (finite (p .y) && finite (q .y) && finite (r .y) && finite (s .y)) (four-told (p .x) (q .x) (r .x) (s .x)) (four-told (p .y) (q .y) (r .y) (s .y)))
+      ∙ told-zero (finite (p .x) && finite (q .x) && finite (r .x) && finite (s .x) && (finite (p .y) && finite (q .y) && finite (r .y) && finite (s .y)))
+      ∙ and-cross (finite (p .x) && finite (q .x) && finite (r .x)) (finite (s .x)) (finite (p .y) && finite (q .y) && finite (r .y)) (finite (s .y))
+      ∙ ap (λ (b : Bool). b && (finite (s .x) && finite (s .y)))
+      (and-cross (finite (p .x) && finite (q .x)) (finite (r .x)) (finite (p .y) && finite (q .y)) (finite (r .y))
+      ∙ ap (λ (b : Bool). b && (finite (r .x) && finite (r .y))) (and-cross (finite (p .x)) (finite (q .x)) (finite (p .y)) (finite (q .y))))
 
   pub bound-yes : allFinite p q r s ≡ true → Finite (boundingBox p q r s) ≡ boundFinite p q r s
   unfolding boundFinite

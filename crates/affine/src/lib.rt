@@ -49,28 +49,14 @@ fn bounding_box(p: Point, q: Point, r: Point, s: Point) -> Rect
     }
 }
 
-fn finite_point(p: Point) -> bool
-    ensures { λ z. ⌜ z ≡ Affines.finitePoint p ⌝ }
-{
-    if floats::is_finite(p.x) {
-        floats::is_finite(p.y)
-    } else {
-        false
-    }
-}
-
-// Whether four points are finite. The points are tested and not their box, since the larger and the smaller of two can hide a NaN.
+// Whether four points are finite, by one sum: a number less itself is 0, or a NaN where it is not finite, and a sum keeps a NaN. So
+// there is one test, and not eight. The points are tested and not their box, since the larger and the smaller of two can hide a NaN.
 fn all_finite(p: Point, q: Point, r: Point, s: Point) -> bool
     ensures { λ z. ⌜ z ≡ Affines.allFinite p q r s ⌝ }
 {
-    if finite_point(p) {
-        if finite_point(q) {
-            if finite_point(r) {
-                return finite_point(s);
-            }
-        }
-    }
-    false
+    let x = (p.x - p.x) + (q.x - q.x) + (r.x - r.x) + (s.x - s.x);
+    let y = (p.y - p.y) + (q.y - q.y) + (r.y - r.y) + (s.y - s.y);
+    x + y == 0.0
 }
 
 // The least box over four points, unless one is not finite.
