@@ -13,7 +13,7 @@ use Rattle.geometry.specs.declared.Rect.{Rect}
 use Rattle.affine.specs.declared.Affine.{Affine}
 use Rattle.affine.specs.declared.Point.{Point}
 use Rattle.affine.specs.declared.Transformed.the-variants.{Finite, NotFinite}
-use Rattle.affine.specs.Affines.{boundingBox, transformRectBbox, finitePoint, boundFinite, tryTransform}
+use Rattle.affine.specs.Affines.{boundingBox, transformRectBbox, finitePoint, allFinite, boundFinite, tryTransform}
 use Rattle.geometry.proofs.Edges.{Edges}
 
 -- an edge of the least box over four points is a coordinate of one of them
@@ -37,11 +37,11 @@ picked-finite false x r e = let z : _≡_ {A = ℕ} 0 1 = cc in absurd (omega ar
 
 module _ (p q r s : Point) (b : Rect) (e : boundFinite p q r s ≡ Finite b) where
   pub bound-is : b ≡ boundingBox p q r s
-  unfolding boundFinite
+  unfolding boundFinite allFinite
   bound-is = picked-finite (finitePoint p && finitePoint q && finitePoint r && finitePoint s) (boundingBox p q r s) b e .1
 
   pub bound-finite : Edges (λ x. T (finite x)) b
-  unfolding boundFinite
+  unfolding boundFinite allFinite
   bound-finite =
       let A = finitePoint p in
       let B = finitePoint q in

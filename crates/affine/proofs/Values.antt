@@ -11,7 +11,7 @@ use Rattle.affine.specs.declared.Affine.{Affine}
 use Rattle.affine.specs.declared.Point.{Point}
 use Rattle.affine.specs.declared.Transformed.{Transformed}
 use Rattle.affine.specs.declared.Transformed.the-variants.{Finite, NotFinite}
-use Rattle.affine.specs.Affines.{_⊕_, _⊗_, transformPoint, boundingBox, transformRectBbox, finitePoint, boundFinite, tryTransform}
+use Rattle.affine.specs.Affines.{_⊕_, _⊗_, transformPoint, boundingBox, transformRectBbox, finitePoint, allFinite, boundFinite, tryTransform}
 
 pub record SamePoint (p q : Point) : Type 0 where
   pub x : Same (p .x) (q .x)
@@ -67,7 +67,7 @@ picked-same true false a b e k = true≢false e
 picked-same false true a b e k = true≢false (sym e)
 
 pub try-same : (s t : Affine) (a b : Rect) → SameAffine s t → SameBox a b → SameTransformed (tryTransform s a) (tryTransform t b)
-unfolding tryTransform boundFinite
+unfolding tryTransform boundFinite allFinite
 try-same s t a b m k =
     let p = point-same s t (a .x0) (b .x0) (a .y0) (b .y0) m (k .x0) (k .y0) in
     let q = point-same s t (a .x1) (b .x1) (a .y0) (b .y0) m (k .x1) (k .y0) in

@@ -42,8 +42,15 @@ transformRectBbox t b = boundingBox (transformPoint t (b .x0) (b .y0)) (transfor
 unfoldable pub finitePoint : Point → Bool
 finitePoint p = finite (p .x) && finite (p .y)
 
+unfoldable pub allFinite : Point → Point → Point → Point → Bool
+allFinite p q r s = finitePoint p && finitePoint q && finitePoint r && finitePoint s
+
 unfoldable pub boundFinite : Point → Point → Point → Point → Transformed
-boundFinite p q r s = pick (finitePoint p && finitePoint q && finitePoint r && finitePoint s) (Finite (boundingBox p q r s)) NotFinite
+boundFinite p q r s = pick (allFinite p q r s) (Finite (boundingBox p q r s)) NotFinite
 
 unfoldable pub tryTransform : Affine → Rect → Transformed
 tryTransform t b = boundFinite (transformPoint t (b .x0) (b .y0)) (transformPoint t (b .x1) (b .y0)) (transformPoint t (b .x0) (b .y1)) (transformPoint t (b .x1) (b .y1))
+
+-- the same test by itself
+unfoldable pub finiteCorners : Affine → Rect → Bool
+finiteCorners t b = allFinite (transformPoint t (b .x0) (b .y0)) (transformPoint t (b .x1) (b .y0)) (transformPoint t (b .x0) (b .y1)) (transformPoint t (b .x1) (b .y1))

@@ -49,29 +49,22 @@ fn bounding_box(p: Point, q: Point, r: Point, s: Point) -> Rect
     }
 }
 
-fn finite_point(p: Point) -> bool
-    ensures { λ z. ⌜ z ≡ Affines.finitePoint p ⌝ }
+// Whether four points are finite, by one sum: a number less itself is 0, or a NaN where it is not finite, and a sum keeps a NaN. So
+// there is one test, and not eight. The points are tested and not their box, since the larger and the smaller of two can hide a NaN.
+fn all_finite(p: Point, q: Point, r: Point, s: Point) -> bool
+    ensures { λ z. ⌜ z ≡ Affines.allFinite p q r s ⌝ }
 {
-    if floats::is_finite(p.x) {
-        floats::is_finite(p.y)
-    } else {
-        false
-    }
+    let x = (p.x - p.x) + (q.x - q.x) + (r.x - r.x) + (s.x - s.x);
+    let y = (p.y - p.y) + (q.y - q.y) + (r.y - r.y) + (s.y - s.y);
+    x + y == 0.0
 }
 
-// The least box over four points, unless one is not finite. The points are tested and not the box,
-// since the larger and the smaller of two can hide a NaN.
+// The least box over four points, unless one is not finite.
 fn bound_finite(p: Point, q: Point, r: Point, s: Point) -> Transformed
     ensures { λ z. ⌜ z ≡ Affines.boundFinite p q r s ⌝ }
 {
-    if finite_point(p) {
-        if finite_point(q) {
-            if finite_point(r) {
-                if finite_point(s) {
-                    return Transformed::Finite(bounding_box(p, q, r, s));
-                }
-            }
-        }
+    if all_finite(p, q, r, s) {
+        return Transformed::Finite(bounding_box(p, q, r, s));
     }
     Transformed::NotFinite
 }
@@ -91,6 +84,18 @@ impl Affine {
         ensures { λ z. ⌜ z ≡ Affines.transformRectBbox self rect ⌝ }
     {
         bounding_box(
+            self.transform_point(rect.x0, rect.y0),
+            self.transform_point(rect.x1, rect.y0),
+            self.transform_point(rect.x0, rect.y1),
+            self.transform_point(rect.x1, rect.y1),
+        )
+    }
+
+    // Whether all four transformed corners are finite, where their box is not wanted.
+    pub fn finite_corners(self, rect: Rect) -> bool
+        ensures { λ z. ⌜ z ≡ Affines.finiteCorners self rect ⌝ }
+    {
+        all_finite(
             self.transform_point(rect.x0, rect.y0),
             self.transform_point(rect.x1, rect.y0),
             self.transform_point(rect.x0, rect.y1),

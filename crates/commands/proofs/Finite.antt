@@ -17,7 +17,7 @@ use Rattle.geometry.specs.declared.Rect.{Rect}
 use Rattle.geometry.proofs.Edges.{Edges, Ordered}
 use Rattle.affine.specs.declared.Affine.{Affine}
 use Rattle.affine.specs.declared.Transformed.the-variants.{Finite, NotFinite}
-use Rattle.affine.specs.Affines.{_⊕_, _⊗_, least, greatest, transformPoint, boundingBox, transformRectBbox, finitePoint, boundFinite, tryTransform}
+use Rattle.affine.specs.Affines.{_⊕_, _⊗_, least, greatest, transformPoint, boundingBox, transformRectBbox, finitePoint, allFinite, boundFinite, tryTransform}
 use Rattle.affine.proofs.Corners.{bound-edges, try-is, try-finite}
 use Rattle.commands.specs.declared.Glyph.{Glyph}
 use Rattle.commands.specs.Bounds.{Command, transformOf, localBounds, clipped, bounds, glyphBounds}
@@ -85,7 +85,7 @@ module _ (t : Affine) (a b : Rect) (e : tryTransform t a ≡ Finite b) where
       record { x0 = (f .x0, g .x0); y0 = (f .y0, g .y0); x1 = (f .x1, g .x1); y1 = (f .y1, g .y1) }
 
   transformed-upright : Upright (transformRectBbox t a)
-  unfolding tryTransform boundFinite transformRectBbox boundingBox
+  unfolding tryTransform boundFinite transformRectBbox boundingBox allFinite
   transformed-upright =
       let h = all-four (finitePoint (transformPoint t (a .x0) (a .y0))) (finitePoint (transformPoint t (a .x1) (a .y0))) (finitePoint (transformPoint t (a .x0) (a .y1))) (finitePoint (transformPoint t (a .x1) (a .y1))) _ b e in
       let p = point-ordered t (a .x0) (a .y0) (h .0) in

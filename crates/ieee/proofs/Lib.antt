@@ -2,3 +2,4 @@
 pub mod Rank
 pub mod Patterns
 pub mod Values
+pub mod Differences

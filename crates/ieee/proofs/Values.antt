@@ -74,7 +74,7 @@ zero-by : Bool → ℕ → ℕ → Float
 unfolding size units
 zero-by s den z = units binary64 s (nearest (0 / (den * 2 ^ (size z - 53))) (compare (0 % (den * 2 ^ (size z - 53)) * 2) (den * 2 ^ (size z - 53)))) (size z - 53)
 
-round-zero : (s : Bool) (den : ℕ) → round binary64 s 0 den ≡ zeroOf s
+pub round-zero : (s : Bool) (den : ℕ) → round binary64 s 0 den ≡ zeroOf s
 unfolding round units odd size span climb zero-by
 round-zero s den =
     let u = den * 2 ^ 0 in

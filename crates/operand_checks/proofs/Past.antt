@@ -31,7 +31,7 @@ module _ (s : List ℕ) where
   unfolding finiteRun
   run-past at p = rw (f32-past (at + 9) (omega arith), from-past (at + 13) 6 (omega arith)) (from-past (at + 69) 4 (omega arith))
 
-  glyph-past : (at : ℕ) → length s ≤ at → finiteGlyph s at ≡ true
+  pub glyph-past : (at : ℕ) → length s ≤ at → finiteGlyph s at ≡ true
   unfolding finiteGlyph
   glyph-past at p = rw (f32-past (at + 5) (omega arith), f32-past (at + 9) (omega arith)) (from-past (at + 13) 4 (omega arith))
 

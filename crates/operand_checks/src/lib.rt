@@ -1,13 +1,13 @@
 // Whether the operands of a command pass: codes first, then every float, used or not. Any offset will do; past the end every
 // byte counts as 0.
 ghost use mathlib.Core.Path.{_≡_};
-ghost use Prim.Native.Nat.{_+_, _*_, _<_, _^_};
+ghost use Prim.Native.Nat.{_+_, _*_, _≤_, _<_, _^_};
 ghost use lib.ListN.{length};
 ghost use Rattle.lists.specs.Pick.{pick};
 ghost use Rattle.operand_checks.specs.Operands as Operands;
 
-// Whether the n f64 from an offset on are finite.
-fn finite_from(s: &[u8], at: usize, n: usize) -> bool
+// Whether the n f64 from an offset on are finite, where bytes may be missing.
+fn finite_cut(s: &[u8], at: usize, n: usize) -> bool
     requires { ⌜ at + 8 * n < 2 ^ 64 ⌝ }
     ensures { λ r. ⌜ r ≡ Operands.finiteFrom (now (s .entry)) at n ⌝ }
 {
@@ -22,6 +22,35 @@ fn finite_from(s: &[u8], at: usize, n: usize) -> bool
         }
     }
     true
+}
+
+// The same where all bytes are there: none is asked for its place.
+fn finite_inside(s: &[u8], at: usize, n: usize) -> bool
+    requires { ⌜ at + 8 * n ≤ length (now s) ⌝ }
+    ensures { λ r. ⌜ r ≡ Operands.finiteFrom (now (s .entry)) at n ⌝ }
+{
+    let mut p = at;
+    let mut left = n;
+    while 0 < left {
+        if little_endian::finite64_inside(s, p) {
+            p += 8;
+            left -= 1;
+        } else {
+            return false;
+        }
+    }
+    true
+}
+
+// The same by the room there is.
+fn finite_from(s: &[u8], at: usize, n: usize) -> bool
+    requires { ⌜ at + 8 * n < 2 ^ 64 ⌝ }
+    ensures { λ r. ⌜ r ≡ Operands.finiteFrom (now (s .entry)) at n ⌝ }
+{
+    if s.len() < at + 8 * n {
+        return finite_cut(s, at, n);
+    }
+    finite_inside(s, at, n)
 }
 
 fn finite_f32(s: &[u8], at: usize) -> bool
@@ -123,4 +152,14 @@ pub fn operands(s: &[u8], at: usize, b: u8) -> u32
         return 0;
     }
     operands_inside(s, at, b)
+}
+
+// Whether the floats of the GLYPH at an offset are finite.
+pub fn glyph_passes(s: &[u8], at: usize) -> bool
+    ensures { λ r. ⌜ r ≡ Operands.finiteGlyph (now (s .entry)) at ⌝ }
+{
+    if s.len() <= at {
+        return true;
+    }
+    finite_glyph(s, at)
 }

@@ -28,6 +28,7 @@ use Rattle.strip.specs.declared.Step.the-variants.{Next, Clip, Pop, Draw, End, 
 use Rattle.strip.specs.declared.Answer.{Answer}
 use Rattle.strip.specs.declared.Answer.the-variants.{Read, Refused as TurnedAway}
 use Rattle.strip.specs.Steps.{startAt, stepAt}
+use Rattle.strip.specs.Effects.{Moves, Passes}
 use Rattle.strip.specs.Reading.{onStep, readFrom, readStrip, commandOf, dropLast, Listing, noted, onNext, listFrom, commandsOf}
 use Rattle.strip.proofs.Moves.{Moved, step-moves}
 use Rattle.strip_laws.specs.Limits.{Within, WhereRead, Whole}
@@ -433,3 +434,19 @@ module _ (s : List ℕ) (at c m : ℕ) (z : Space) (st : Cursor) (d : ListState)
       go : (f : ℕ) → length s - st .at < f → readFrom f s st ≡ readStrip s at → (TurnedAway n k ≡ readStrip s at) × (SameLengths z y × Records s at c m z y (TurnedAway n k))
       go zero a b = absurd (omega arith)
       go (suc f) a b = (sym (ap (λ v. onStep v (readFrom f s)) (sym p ∙ q)) ∙ b, (g .lengths, tt))
+
+-- ---- several steps at once that only move the cursor
+module _ (s : List ℕ) (at c m : ℕ) (z : Space) (d : ListState) (y : Space) where
+  moves-on : (n : ℕ) (st t : Cursor) → Going s at c m z st d y → Moves n s st t → (length s - t .at ≤ length s - st .at) × Going s at c m z t d y
+  unfolding Moves
+  moves-on zero st t g e = rw e (omega arith, g)
+  moves-on (suc n) st t g (u, w, q) =
+      let h = moves-on n st u g w in
+      let k = on-next s at c m z u d y (h .1) (stepAt s u) refl t q in
+      (omega (arith, h .0, k .0), k .1)
+
+  pub on-passed : (st : Cursor) (g : Going s at c m z st d y) (r : Step) (p : r ≡ stepAt s st) (t v : Cursor) → r ≡ Next t → Passes s t v → (length s - v .at < length s - st .at) × Going s at c m z v d y
+  on-passed st g r p t v q w =
+      let a = on-next s at c m z st d y g r p t q in
+      let b = moves-on (w .steps) t v (a .1) (w .moves) in
+      (omega (arith, a .0, b .0), b .1)

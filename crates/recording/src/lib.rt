@@ -38,7 +38,7 @@ fn record_strip(
     loop {
         match strip::take_step(s, st) {
             Step::Next(t) => {
-                st = t;
+                st = strip::pass_glyphs(s, t);
             }
             Step::Clip(t, rect) => {
                 st = t;

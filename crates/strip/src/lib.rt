@@ -6,6 +6,8 @@ ghost use lib.ListN.{length};
 ghost use Rattle.strip_format.specs.Format.{lengthOf};
 ghost use Rattle.strip.specs.Steps as Steps;
 ghost use Rattle.strip.specs.Reading as Reading;
+ghost use Rattle.strip.specs.Effects.{settled, GoesOn, Passes};
+use affine::Affine;
 use affine::Transformed;
 use geometry::Rect;
 
@@ -36,6 +38,14 @@ pub enum Step {
     Draw(Cursor, usize, Rect),
     End(Cursor),
     Refused(u32, usize),
+}
+
+// What a command does, before the box of what it draws is transformed: a drawing command that is whole, with the cursor behind it,
+// its offset, where the command that completes it stands and its box; or all that there is to say. All boxes are then transformed in one
+// place, so that this is compiled into the loop that reads.
+enum Effect {
+    Drawn(Cursor, usize, usize, Rect),
+    Done(Step),
 }
 
 // What a strip is: read to its END, or turned away.
@@ -76,7 +86,7 @@ impl Cursor {
         if 4096 <= self.clips {
             return Step::Refused(6, at);
         }
-        let bounds = strip_format::rect_at(s, at + 1);
+        let bounds = strip_format::rect_inside(s, at + 1);
         self.at = at + 33;
         self.depth = self.depth + 1;
         self.clips = self.clips + 1;
@@ -96,25 +106,21 @@ impl Cursor {
         Step::Pop(self)
     }
 
-    fn draw(mut self, s: &[u8], len: usize) -> Step
+    fn draw(mut self, s: &[u8], len: usize) -> Effect
         requires { ⌜ self .at + len < 2 ^ 64 ⌝ }
-        ensures { λ r. ⌜ r ≡ Steps.drawStep (now (s .entry)) self len ⌝ }
+        ensures { λ r. ⌜ settled (now (s .entry)) r ≡ Steps.drawStep (now (s .entry)) self len ⌝ }
     {
         let at = self.at;
         if 4096 <= self.commands {
-            return Step::Refused(6, at);
+            return Effect::Done(Step::Refused(6, at));
         }
         let united = self.united;
-        match command_bounds::try_bounds_at(s, at, united) {
-            Transformed::Finite(bounds) => {
-                self.at = at + len;
-                self.commands = self.commands + 1;
-                self.due = 0;
-                self.run = at;
-                Step::Draw(self, at, bounds)
-            }
-            Transformed::NotFinite => Step::Refused(9, at),
-        }
+        let bounds = command_bounds::local_bounds_at(s, at, united);
+        self.at = at + len;
+        self.commands = self.commands + 1;
+        self.due = 0;
+        self.run = at;
+        Effect::Drawn(self, at, at, bounds)
     }
 
     // A RUN that announces glyphs.
@@ -134,16 +140,16 @@ impl Cursor {
     }
 
     // Any drawing command. One that announces no glyph is drawn, a RUN too: in one place, so that it is compiled into its caller.
-    fn draw_or_run(self, s: &[u8], b: u8) -> Step
+    fn draw_or_run(self, s: &[u8], b: u8) -> Effect
         requires { ⌜ (self .at + lengthOf b ≤ length (now s)) × Steps.Draws b ⌝ }
-        ensures { λ r. ⌜ r ≡ Steps.effectOf (now (s .entry)) self b ⌝ }
+        ensures { λ r. ⌜ settled (now (s .entry)) r ≡ Steps.effectOf (now (s .entry)) self b ⌝ }
     {
         let at = self.at;
         let due = announced(s, at, b);
         if due == 0 {
             return self.draw(s, strip_format::length_of(b));
         }
-        self.run(due)
+        Effect::Done(self.run(due))
     }
 
     // The boxes of the run's glyphs up to this one, united. The first glyph stands right behind its RUN.
@@ -162,42 +168,50 @@ impl Cursor {
         united.union(bounds)
     }
 
+    // Past a glyph with this box.
+    fn past_glyph(mut self, bounds: Rect) -> Cursor
+        requires { ⌜ (self .at + 45 < 2 ^ 64) × (0 < self .due) × (self .glyphs < 16384) ⌝ }
+        ensures { λ r. ⌜ r ≡ Steps.glyphRead self bounds ⌝ }
+    {
+        let united = self.unite(bounds);
+        self.at = self.at + 45;
+        self.glyphs = self.glyphs + 1;
+        self.due = self.due - 1;
+        self.united = united;
+        self
+    }
+
     // The glyph with this box, once its own corners are known to be finite.
-    fn last(mut self, s: &[u8], bounds: Rect) -> Step
+    fn last(self, s: &[u8], bounds: Rect) -> Effect
         requires { ⌜ (self .at + 45 ≤ length (now s)) × (0 < self .due) × (self .glyphs < 16384) ⌝ }
-        ensures { λ r. ⌜ r ≡ Steps.lastStep (now (s .entry)) self bounds ⌝ }
+        ensures { λ r. ⌜ settled (now (s .entry)) r ≡ Steps.lastStep (now (s .entry)) self bounds ⌝ }
     {
         let at = self.at;
         let run = self.run;
         let due = self.due;
-        let united = self.unite(bounds);
-        self.at = at + 45;
-        self.glyphs = self.glyphs + 1;
-        self.due = due - 1;
-        self.united = united;
+        let next = self.past_glyph(bounds);
+        let united = next.united;
         if due == 1 {
-            match command_bounds::transformed_at(s, run, united) {
-                Transformed::Finite(whole) => Step::Draw(self, run, whole),
-                Transformed::NotFinite => Step::Refused(9, at),
-            }
+            Effect::Drawn(next, run, at, united)
         } else {
-            Step::Next(self)
+            Effect::Done(Step::Next(next))
         }
     }
 
-    fn glyph(self, s: &[u8]) -> Step
+    fn glyph(self, s: &[u8]) -> Effect
         requires { ⌜ (self .at + 45 ≤ length (now s)) × (0 < self .due) ⌝ }
-        ensures { λ r. ⌜ r ≡ Steps.glyphStep (now (s .entry)) self ⌝ }
+        ensures { λ r. ⌜ settled (now (s .entry)) r ≡ Steps.glyphStep (now (s .entry)) self ⌝ }
     {
         let at = self.at;
         let run = self.run;
         if 16384 <= self.glyphs {
-            return Step::Refused(6, at);
+            return Effect::Done(Step::Refused(6, at));
         }
-        let bounds = strip_format::rect_at(s, at + 13);
-        match command_bounds::transformed_at(s, run, bounds) {
-            Transformed::Finite(_) => self.last(s, bounds),
-            Transformed::NotFinite => Step::Refused(9, at),
+        let bounds = strip_format::rect_inside(s, at + 13);
+        if command_bounds::finite_corners_at(s, run, bounds) {
+            self.last(s, bounds)
+        } else {
+            Effect::Done(Step::Refused(9, at))
         }
     }
 }
@@ -220,20 +234,35 @@ fn due_fits(b: u8, due: u64) -> bool
     if b == 6 { 0 < due } else { due == 0 }
 }
 
-fn effect(s: &[u8], st: Cursor, b: u8) -> Step
+fn effect_of(s: &[u8], st: Cursor, b: u8) -> Effect
     requires { ⌜ (st .at + lengthOf b ≤ length (now s)) × (Steps.dueFits b (st .due) ≡ true) ⌝ }
-    ensures { λ r. ⌜ r ≡ Steps.effectOf (now (s .entry)) st b ⌝ }
+    ensures { λ r. ⌜ settled (now (s .entry)) r ≡ Steps.effectOf (now (s .entry)) st b ⌝ }
 {
     match b {
         0 => {
             let mut end = st;
             end.at = end.at + 1;
-            Step::End(end)
+            Effect::Done(Step::End(end))
         }
-        1 => st.clip(s),
-        2 => st.pop(),
+        1 => Effect::Done(st.clip(s)),
+        2 => Effect::Done(st.pop()),
         6 => st.glyph(s),
         _ => st.draw_or_run(s, b),
+    }
+}
+
+// The step, once the box of what is drawn is transformed.
+fn settle(s: &[u8], effect: Effect) -> Step
+    ensures { λ r. ⌜ r ≡ settled (now (s .entry)) effect ⌝ }
+{
+    match effect {
+        Effect::Drawn(next, offset, at, bounds) => {
+            match command_bounds::transformed_at(s, offset, bounds) {
+                Transformed::Finite(transformed) => Step::Draw(next, offset, transformed),
+                Transformed::NotFinite => Step::Refused(9, at),
+            }
+        }
+        Effect::Done(step) => step,
     }
 }
 
@@ -256,13 +285,58 @@ pub fn take_step(s: &[u8], st: Cursor) -> Step
         }
         let number = operand_checks::operands(s, at, b);
         if number == 0 {
-            effect(s, st, b)
+            settle(s, effect_of(s, st, b))
         } else {
             Step::Refused(number, at)
         }
     } else {
         Step::Refused(7, at)
     }
+}
+
+// True only where a glyph that is due stands at the cursor, is not the last of its run and passes, by the run's affine.
+fn glyph_goes_on(s: &[u8], st: Cursor, transform: Affine) -> bool
+    ensures { λ r. ⌜ (r ≡ true → GoesOn (now (s .entry)) st transform) ⌝ }
+{
+    let at = st.at;
+    if st.due < 2 {
+        return false;
+    }
+    if s.len() <= at {
+        return false;
+    }
+    if s.len() - at < 45 {
+        return false;
+    }
+    if s[at] != 6 {
+        return false;
+    }
+    if 16384 <= st.glyphs {
+        return false;
+    }
+    if operand_checks::glyph_passes(s, at) {
+        let bounds = strip_format::rect_inside(s, at + 13);
+        return transform.finite_corners(bounds);
+    }
+    false
+}
+
+// Past the glyphs at the cursor that only move it: as many steps at once, with the run's affine read once for all of them.
+pub fn pass_glyphs(s: &[u8], st: Cursor) -> Cursor
+    ensures { λ r. ⌜ Passes (now (s .entry)) st r ⌝ }
+{
+    let run = st.run;
+    if st.due < 2 {
+        return st;
+    }
+    let transform = command_bounds::transform_at(s, run);
+    let mut next = st;
+    while glyph_goes_on(s, next, transform) {
+        let at = next.at;
+        let bounds = strip_format::rect_inside(s, at + 13);
+        next = next.past_glyph(bounds);
+    }
+    next
 }
 
 // Reads a strip from an offset to its END.

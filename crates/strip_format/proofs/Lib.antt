@@ -4,3 +4,4 @@ pub mod Commands
 pub mod Past
 pub mod Alike
 pub mod Numbers
+mod Finite

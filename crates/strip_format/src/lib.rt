@@ -4,7 +4,9 @@
 ghost use mathlib.Core.Path.{_≡_};
 ghost use Prim.Native.Nat.{_+_, _≤_, _<_};
 ghost use lib.ListN.{length};
+ghost use mathlib.Core.Bool.{true};
 ghost use Rattle.strip_format.specs.Format as Format;
+ghost use Rattle.strip_format.specs.Finite.{FourFinite};
 use affine::Affine;
 use commands::Cap;
 use commands::DrawCommand;
@@ -65,6 +67,37 @@ pub fn rect_at(s: &[u8], at: usize) -> Rect
     }
 }
 
+// True only where the four f64 from an offset on are finite.
+fn finite_rect(s: &[u8], at: usize) -> bool
+    requires { ⌜ at + 32 ≤ length (now s) ⌝ }
+    ensures { λ r. ⌜ (r ≡ true → FourFinite (now (s .entry)) at) ⌝ }
+{
+    if little_endian::finite64_inside(s, at) {
+        if little_endian::finite64_inside(s, at + 8) {
+            if little_endian::finite64_inside(s, at + 16) {
+                return little_endian::finite64_inside(s, at + 24);
+            }
+        }
+    }
+    false
+}
+
+// A box whose bytes are all there. Its floats are tested together, so that none is tested where it is used.
+pub fn rect_inside(s: &[u8], at: usize) -> Rect
+    requires { ⌜ at + 32 ≤ length (now s) ⌝ }
+    ensures { λ r. ⌜ r ≡ Format.rectAt (now (s .entry)) at ⌝ }
+{
+    if finite_rect(s, at) {
+        return Rect {
+            x0: little_endian::f64_inside(s, at),
+            y0: little_endian::f64_inside(s, at + 8),
+            x1: little_endian::f64_inside(s, at + 16),
+            y1: little_endian::f64_inside(s, at + 24),
+        };
+    }
+    rect_at(s, at)
+}
+
 // An affine whose last bytes may be missing.
 fn affine_cut(s: &[u8], at: usize) -> Affine
     requires { ⌜ at < length (now s) ⌝ }
@@ -105,6 +138,26 @@ pub fn affine_at(s: &[u8], at: usize) -> Affine
         e: little_endian::f64_at(part, 32),
         f: little_endian::f64_at(part, 40),
     }
+}
+
+// An affine whose bytes are all there.
+pub fn affine_inside(s: &[u8], at: usize) -> Affine
+    requires { ⌜ at + 48 ≤ length (now s) ⌝ }
+    ensures { λ r. ⌜ r ≡ Format.affineAt (now (s .entry)) at ⌝ }
+{
+    if finite_rect(s, at) {
+        if finite_rect(s, at + 16) {
+            return Affine {
+                a: little_endian::f64_inside(s, at),
+                b: little_endian::f64_inside(s, at + 8),
+                c: little_endian::f64_inside(s, at + 16),
+                d: little_endian::f64_inside(s, at + 24),
+                e: little_endian::f64_inside(s, at + 32),
+                f: little_endian::f64_inside(s, at + 40),
+            };
+        }
+    }
+    affine_at(s, at)
 }
 
 fn join_of(code: u8) -> Join

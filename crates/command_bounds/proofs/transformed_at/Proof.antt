@@ -5,7 +5,7 @@ use Rattle.command_bounds.proofs.transformed_at.Statement.{statement}
 use Rattle.command_bounds.proofs.transformed_at.Tie as tie
 
 returns : tie.Need-returns
-returns c = c .try-transform .ensures ∙ ap (λ m. tryTransform m (c .before .before .before .args .rect)) (c .before .transform-at .ensures)
+returns c = c .try-transform .ensures ∙ ap (λ m. tryTransform m (c .before .before .before .args .rect)) (c .before .placed-transform .ensures)
 
 pub transformed-at-spec : {M : Type 1} → statement M
 transformed-at-spec =

@@ -2,7 +2,7 @@ use lib.ListN.{length}
 use Prim.Native.Nat.{_-_}
 use native.Mathlib.Omega.{arith}
 use Rattle.recording.specs.Recorded.{space}
-use Rattle.recording.proofs.Going.{Going, going-start, low, on-next, on-clip, on-pop, on-draw, on-end, on-refused}
+use Rattle.recording.proofs.Going.{Going, going-start, low, on-passed, on-clip, on-pop, on-draw, on-end, on-refused}
 use Rattle.recording.proofs.record_strip.Statement.{statement}
 use Rattle.recording.proofs.record_strip.Tie as tie
 
@@ -18,10 +18,10 @@ loop-holds : tie.Need-loop-holds Inv-loop μ-loop
 loop-holds c = going-start _ _ _ _ _ _ (c .start .ensures)
 
 loop-less : tie.Need-loop-less Inv-loop μ-loop
-loop-less c = on-next _ _ _ _ _ _ _ _ (c .before .before .before .before .loop .inv) _ (c .before .before .before .take-step .ensures) _ (c .before .t .given .1) .0
+loop-less c = on-passed _ _ _ _ _ _ _ _ (c .before .before .before .before .before .loop .inv) _ (c .before .before .before .before .take-step .ensures) _ _ (c .before .before .t .given .1) (c .pass-glyphs .ensures) .0
 
 loop-again : tie.Need-loop-again Inv-loop μ-loop
-loop-again c = on-next _ _ _ _ _ _ _ _ (c .before .before .before .before .loop .inv) _ (c .before .before .before .take-step .ensures) _ (c .before .t .given .1) .1
+loop-again c = on-passed _ _ _ _ _ _ _ _ (c .before .before .before .before .before .loop .inv) _ (c .before .before .before .before .take-step .ensures) _ _ (c .before .before .t .given .1) (c .pass-glyphs .ensures) .1
 
 push-clip-requires : tie.Need-push-clip-requires Inv-loop μ-loop
 push-clip-requires c κs = let l = low _ _ _ _ _ _ _ _ (c .before .before .before .before .before .before .loop .inv) _ (c .before .before .before .before .before .take-step .ensures) (c .before .before .before .before .before .before .before .before .before .before .before .before .before .pre .0) (c .before .before .before .before .before .before .before .before .before .before .before .before .before .pre .1) in (omega (arith, l .0), omega (arith, l .1))
@@ -81,7 +81,7 @@ pub record-strip-spec : {M : Type 1} → statement M
 record-strip-spec =
     tie.close
     (tie.spec
-    Inv-loop μ-loop (λ c κs. tt) loop-holds (λ c κs. tt) (λ c. c .match .keys1) loop-less loop-again (λ c. c .match .keys2)
+    Inv-loop μ-loop (λ c κs. tt) loop-holds (λ c κs. tt) (λ c. c .match .keys1) (λ c κs. tt) loop-less loop-again (λ c. c .match .keys2)
     push-clip-requires loop-less-2 loop-again-2 (λ c. c .match .keys3) (λ c κs. tt) loop-less-3 loop-again-3 (λ c. c .match .keys4)
     (λ c κs. tt) push-requires loop-less-4 loop-again-4 (λ c. c .match .keys5) same-length same-length-2 same-length-3 same-length-4
     returns (λ c. c .match .keys6) same-length-5 same-length-6 same-length-7 same-length-8 returns-2)

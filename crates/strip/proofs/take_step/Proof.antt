@@ -14,11 +14,11 @@ returns-2 c = step-unknown _ _ _ refl (c .before .before .if1 .left) (c .if2 .ta
 returns-3 : tie.Need-returns-3
 returns-3 c = step-short _ _ _ refl (c .before .before .before .before .before .before .if1 .left) (c .before .before .before .before .if2 .left) (sym (c .before .before .before .due-fits .ensures) ∙ c .before .before .if3 .taken) (omega (arith, c .if4 .taken, c .before .length-of .ensures))
 
-effect-requires : tie.Need-effect-requires
-effect-requires c κs = (omega (arith, c .before .before .if4 .left, c .before .before .before .length-of .ensures, c .before .before .before .before .before .before .before .before .if1 .left), sym (c .before .before .before .before .before .due-fits .ensures) ∙ c .before .before .before .before .if3 .taken)
+effect-of-requires : tie.Need-effect-of-requires
+effect-of-requires c κs = (omega (arith, c .before .before .if4 .left, c .before .before .before .length-of .ensures, c .before .before .before .before .before .before .before .before .if1 .left), sym (c .before .before .before .before .before .due-fits .ensures) ∙ c .before .before .before .before .if3 .taken)
 
 returns-4 : tie.Need-returns-4
-returns-4 c = c .effect .ensures ∙ step-effect _ _ _ refl (c .before .before .before .before .before .before .before .before .before .if1 .left) (c .before .before .before .before .before .before .before .if2 .left) (sym (c .before .before .before .before .before .before .due-fits .ensures) ∙ c .before .before .before .before .before .if3 .taken) _ (omega (arith, c .before .before .before .if4 .left, c .before .before .before .before .length-of .ensures)) (c .before .before .operands .ensures) (c .before .if5 .taken)
+returns-4 c = c .settle .ensures ∙ c .before .effect-of .ensures ∙ step-effect _ _ _ refl (c .before .before .before .before .before .before .before .before .before .before .if1 .left) (c .before .before .before .before .before .before .before .before .if2 .left) (sym (c .before .before .before .before .before .before .before .due-fits .ensures) ∙ c .before .before .before .before .before .before .if3 .taken) _ (omega (arith, c .before .before .before .before .if4 .left, c .before .before .before .before .before .length-of .ensures)) (c .before .before .before .operands .ensures) (c .before .before .if5 .taken)
 
 returns-5 : tie.Need-returns-5
 returns-5 c = step-operands _ _ _ refl (c .before .before .before .before .before .before .before .before .if1 .left) (c .before .before .before .before .before .before .if2 .left) (sym (c .before .before .before .before .before .due-fits .ensures) ∙ c .before .before .before .before .if3 .taken) _ (omega (arith, c .before .before .if4 .left, c .before .before .before .length-of .ensures)) (c .before .operands .ensures) (c .if5 .left)
@@ -31,4 +31,4 @@ take-step-spec =
     tie.close
     (tie.spec
     returns (λ c. search needs) returns-2 (λ c κs. tt) (λ c. search needs) (λ c κs. tt) returns-3
-    (λ c κs. tt) effect-requires returns-4 returns-5 returns-6)
+    (λ c κs. tt) effect-of-requires (λ c κs. tt) returns-4 returns-5 returns-6)

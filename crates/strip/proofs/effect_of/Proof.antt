@@ -3,8 +3,8 @@ use native.Mathlib.Omega.{arith}
 use mathlib.Core.Path.{_∙_}
 use Rattle.strip.proofs.Effects.{due-glyph, effect-end, effect-clip, effect-pop, effect-glyph}
 use borrow.Author.Needs.{needs}
-use Rattle.strip.proofs.effect.Statement.{statement}
-use Rattle.strip.proofs.effect.Tie as tie
+use Rattle.strip.proofs.effect_of.Statement.{statement}
+use Rattle.strip.proofs.effect_of.Tie as tie
 
 clip-requires : tie.Need-clip-requires
 unfolding lengthOf
@@ -26,8 +26,8 @@ returns-3 c = c .pop .ensures ∙ effect-pop _ _ _ (c .before .match .keys3)
 returns-4 : tie.Need-returns-4
 returns-4 c = c .glyph .ensures ∙ effect-glyph _ _ _ (c .before .match .keys4)
 
-pub effect-spec : {M : Type 1} → statement M
-effect-spec =
+pub effect-of-spec : {M : Type 1} → statement M
+effect-of-spec =
     tie.close
     (tie.spec
     (λ c. search needs) clip-requires (λ c κs. search needs) glyph-requires (λ c κs. search needs) returns returns-2 returns-3

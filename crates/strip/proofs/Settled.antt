@@ -1,0 +1,91 @@
+-- Effects whose box is still to be transformed, as the steps that they settle to; and steps that only move the cursor. Assumes nothing.
+use mathlib.Core.Path.{_≡_, refl, sym, ap, _∙_}
+use mathlib.Core.Bool.{true, false}
+use mathlib.Core.List.{List}
+use Prim.Native.Nat.{ℕ, zero, suc, _+_, _-_, _≤_, _<_}
+use native.Mathlib.Omega.{arith}
+use lib.ListN.{length, getD}
+use borrow.Author.Tests.{lt-leb, lt-ltb, eq-eqb, ne-eqb}
+use Rattle.geometry.specs.declared.Rect.{Rect}
+use Rattle.affine.specs.declared.Affine.{Affine}
+use Rattle.affine.specs.declared.Transformed.{Transformed}
+use Rattle.affine.specs.declared.Transformed.the-variants.{Finite, NotFinite}
+use Rattle.affine.specs.Affines.{finiteCorners, tryTransform}
+use Rattle.affine.proofs.Answers.{corners-yes, corners-no}
+use Rattle.commands.specs.Bounds.{transformOf, localWith}
+use Rattle.strip_format.specs.Format.{lengthOf, rectAt, commandAt}
+use Rattle.strip_format.proofs.Lengths.{length-glyph}
+use Rattle.operand_checks.specs.Operands.{finiteGlyph, operandsAt}
+use Rattle.strip.specs.declared.Cursor.{Cursor}
+use Rattle.strip.specs.declared.Effect.{Effect}
+use Rattle.strip.specs.declared.Effect.the-variants.{Drawn, Done}
+use Rattle.strip.specs.declared.Step.{Step}
+use Rattle.strip.specs.declared.Step.the-variants.{Next, Draw, Refused}
+use Rattle.strip.specs.Steps.{dueFits, onBox, drawn, drawStep, glyphRead, lastStep, glyphStep, stepAt}
+use Rattle.strip.specs.Effects.{settled, GoesOn, Moves, Passes}
+use Rattle.strip.proofs.Effects.{glyph-box, glyph-not-finite, effect-glyph, step-effect}
+
+module _ (s : List ℕ) where
+  -- ---- an effect that was taken apart
+  pub settled-box : (e : Effect) (t : Cursor) (o at : ℕ) (b w : Rect) (r : Transformed) → e ≡ Drawn t o at b → r ≡ tryTransform (transformOf (commandAt s o)) b → r ≡ Finite w → Draw t o w ≡ settled s e
+  settled-box e t o at b w r p q f = sym (ap (settled s) p ∙ ap (λ (x : Transformed). onBox at x (λ v. Draw t o v)) (sym q ∙ f))
+
+  pub settled-not-finite : (e : Effect) (t : Cursor) (o at : ℕ) (b : Rect) (r : Transformed) → e ≡ Drawn t o at b → r ≡ tryTransform (transformOf (commandAt s o)) b → r ≡ NotFinite → Refused 9 at ≡ settled s e
+  settled-not-finite e t o at b r p q f = sym (ap (settled s) p ∙ ap (λ (x : Transformed). onBox at x (λ v. Draw t o v)) (sym q ∙ f))
+
+  pub settled-done : (e : Effect) (x : Step) → e ≡ Done x → x ≡ settled s e
+  settled-done e x p = sym (ap (settled s) p)
+
+  module _ (st : Cursor) where
+    pub draw-settles : (len : ℕ) (b : Rect) → st .commands < 4096 → b ≡ localWith (commandAt s (st .at)) (st .united) → settled s (Drawn (drawn st len 0) (st .at) (st .at) b) ≡ drawStep s st len
+    unfolding drawStep
+    draw-settles len b h e =
+        ap (λ (x : Rect). settled s (Drawn (drawn st len 0) (st .at) (st .at) x)) e ∙ rw (lt-leb 4096 (st .commands) h) refl
+
+    module _ (next : Cursor) (b : Rect) (e : next ≡ glyphRead st b) where
+      pub last-settles : st .due ≡ 1 → settled s (Drawn next (st .run) (st .at) (next .united)) ≡ lastStep s st b
+      unfolding lastStep
+      last-settles h = ap (λ (x : Cursor). settled s (Drawn x (st .run) (st .at) (x .united))) e ∙ rw (eq-eqb (st .due) 1 h) refl
+
+      pub more-settles : (st .due ≡ 1 → ⊥) → Next next ≡ lastStep s st b
+      unfolding lastStep
+      more-settles h = ap Next e ∙ rw (ne-eqb (st .due) 1 h) refl
+
+    -- ---- a glyph by the test of its corners alone
+    module _ (b : Rect) (e : b ≡ rectAt s (st .at + 13)) (h : st .glyphs < 16384) where
+      pub corners-finite : finiteCorners (transformOf (commandAt s (st .run))) b ≡ true → lastStep s st b ≡ glyphStep s st
+      corners-finite t = glyph-box s st b _ refl _ e h (corners-yes (transformOf (commandAt s (st .run))) b t)
+
+      pub corners-not-finite : finiteCorners (transformOf (commandAt s (st .run))) b ≡ false → Refused 9 (st .at) ≡ glyphStep s st
+      corners-not-finite t = glyph-not-finite s st b _ refl e h (corners-no (transformOf (commandAt s (st .run))) b t)
+
+    -- ---- a glyph that only moves the cursor
+    operands-pass : finiteGlyph s (st .at) ≡ true → operandsAt s (st .at) 6 ≡ 0
+    unfolding operandsAt
+    operands-pass e = rw e
+
+    due-more : 2 ≤ st .due → dueFits 6 (st .due) ≡ true
+    unfolding dueFits
+    due-more h = lt-ltb 0 (st .due) (omega arith)
+
+    pub goes-on : (t : Affine) → t ≡ transformOf (commandAt s (st .run)) → GoesOn s st t → stepAt s st ≡ Next (glyphRead st (rectAt s (st .at + 13)))
+    goes-on t e w =
+        sym (step-effect s st 6 (w .byte) (omega (arith, w .room)) (omega arith) (due-more (w .more)) 0 (omega (arith, w .room, length-glyph)) (sym (operands-pass (w .operands))) refl)
+        ∙ sym (effect-glyph s st 6 refl)
+        ∙ sym (corners-finite (rectAt s (st .at + 13)) refl (w .count) (ap (λ (x : Affine). finiteCorners x (rectAt s (st .at + 13))) (sym e) ∙ w .corners))
+        ∙ sym (more-settles (glyphRead st (rectAt s (st .at + 13))) (rectAt s (st .at + 13)) refl (λ z. omega (arith, w .more)))
+
+  pub passes-none : (st : Cursor) → Passes s st st
+  unfolding Moves
+  passes-none st = record { steps = 0; moves = refl }
+
+  pub passes-one : (st u t : Cursor) → Passes s st u → stepAt s u ≡ Next t → Passes s st t
+  unfolding Moves
+  passes-one st u t w e = record { steps = suc (w .steps); moves = (u, w .moves, e) }
+
+-- the affine of a run that the cursor is still in; a cursor past a glyph whose box was read
+pub transform-is : (s : List ℕ) (t : Affine) (run : ℕ) (st : Cursor) → t ≡ transformOf (commandAt s run) → st .run ≡ run → t ≡ transformOf (commandAt s (st .run))
+transform-is s t run st e f = e ∙ ap (λ (x : ℕ). transformOf (commandAt s x)) (sym f)
+
+pub glyph-read : (st t : Cursor) (b box : Rect) → b ≡ box → t ≡ glyphRead st b → t ≡ glyphRead st box
+glyph-read st t b box e f = f ∙ ap (glyphRead st) e
