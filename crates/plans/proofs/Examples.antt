@@ -3,7 +3,7 @@ use mathlib.Core.Path.{_≡_, refl}
 use mathlib.Core.List.{List, [], _∷_, _++_}
 use Prim.Native.Nat.{ℕ}
 use lib.Ieee.{ofInt, ofBits, toBits, eq, lt, add, mul, div}
-use Rattle.affine.specs.Affines.{boundingBox, transformRectBbox, finitePoint, boundFinite, tryTransform}
+use Rattle.affine.specs.Affines.{boundingBox, transformRectBbox, finitePoint, allFinite, boundFinite, tryTransform}
 use Rattle.bands.specs.Bands.{rectAt, rectsTo, regionsOf, cutTo, insertBy, sortBy, joinTo, join, mergeOverlapping}
 use Rattle.bands.specs.Keys.{pack, fromXY, fromYX}
 use Rattle.changes.specs.Changes.{changedGlyphs, changedBounds, diffDirty}
@@ -72,5 +72,5 @@ pub record Turn : Type 0 where
   pub empty : answerOf (just 1) (nextOutcome []) ≡ Refused 2 0
 
 pub worked : Turn
-unfolding firstOutcome nextOutcome itemsFit draftFits boundsAt boundsTo changedGlyphs changedBounds diffDirty sameFill sameStroked sameRun sameScene runAlike sameDrawing fillsAlike runsAlike equal runsAlikeClipped readFrom listFrom dueFits clipStep popStep drawStep runStep lastStep glyphStep effectOf stepAt finiteFrom finiteStroke finiteRun finiteGlyph codesFit operandsAt lengthOf joinOf capOf commandAt glyphsFrom withArea rectDifference rectSymmetricDifference keep around sameAffine sameCap sameStroke sameBits sameGlyph equalGlyph samePath equalGlyphs sameClips strokeBoundsInflation unitedFrom clipFrom bounds glyphBounds boundingBox transformRectBbox finitePoint boundFinite tryTransform spans meets touches positiveArea sameEdges u16At u32At u64At finiteOr floor ceil nextDown larger smaller All Any Pairs sizeFits headerOf ended bothOf firstOf bandsTo pixelsOf wordsOf pack fromXY fromYX rectAt rectsTo regionsOf cutTo insertBy sortBy joinTo join mergeOverlapping insert sort AtLeast Ascending between intersect union standsIn places rowList entriesTo startOf startsTo layout indexWords ofInt ofBits toBits eq lt add mul div
+unfolding firstOutcome nextOutcome itemsFit draftFits boundsAt boundsTo changedGlyphs changedBounds diffDirty sameFill sameStroked sameRun sameScene runAlike sameDrawing fillsAlike runsAlike equal runsAlikeClipped readFrom listFrom dueFits clipStep popStep drawStep runStep lastStep glyphStep effectOf stepAt finiteFrom finiteStroke finiteRun finiteGlyph codesFit operandsAt lengthOf joinOf capOf commandAt glyphsFrom withArea rectDifference rectSymmetricDifference keep around sameAffine sameCap sameStroke sameBits sameGlyph equalGlyph samePath equalGlyphs sameClips strokeBoundsInflation unitedFrom clipFrom bounds glyphBounds boundingBox transformRectBbox finitePoint allFinite boundFinite tryTransform spans meets touches positiveArea sameEdges u16At u32At u64At finiteOr floor ceil nextDown larger smaller All Any Pairs sizeFits headerOf ended bothOf firstOf bandsTo pixelsOf wordsOf pack fromXY fromYX rectAt rectsTo regionsOf cutTo insertBy sortBy joinTo join mergeOverlapping insert sort AtLeast Ascending between intersect union standsIn places rowList entriesTo startOf startsTo layout indexWords ofInt ofBits toBits eq lt add mul div
 worked = record { turn = refl; first = refl; short = refl; behind = refl; empty = refl }
