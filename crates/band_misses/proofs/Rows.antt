@@ -1,6 +1,7 @@
 -- The rows of a converted box lie between its rounded edges, and an edge against a whole number is its rounding against it. Assumes nothing.
 use mathlib.Core.Path.{_≡_, refl, sym, ap, _∙_, subst}
 use mathlib.Core.Bool.{Bool, true, false, _&&_}
+use mir.Val.{boolByte}
 use Prim.Native.Nat.{ℕ, _+_, _-_, _*_, _^_, _≤_, _<_, min, max}
 use native.Mathlib.Nat.{le-of-eq, le-trans}
 use native.Mathlib.Omega.{arith}
@@ -62,3 +63,12 @@ module _ (b : Rect) (band : DeviceRegion) where
       let k = floor-from (b .y0) end f small (subst T (sym (ap (λ (t : Float). le t (b .y0)) (sym is) ∙ e)) tt) in
       let q = rows-of w h r region in
       flat r (omega (arith, ends, k, q .0, q .1))
+
+-- ---- a test as a number
+pub byte-most : (b : Bool) → boolByte b ≤ 1
+byte-most true = omega arith
+byte-most false = omega arith
+
+pub byte-zero : (b : Bool) → boolByte b ≡ 0 → b ≡ false
+byte-zero true e = absurd (omega arith)
+byte-zero false e = refl
