@@ -26,10 +26,10 @@ pub fn transform_at(s: &[u8], at: usize) -> Affine
     ensures { λ r. ⌜ r ≡ Bounds.transformOf (commandAt (now (s .entry)) at) ⌝ }
 {
     match kind_at(s, at) {
-        3 => strip_format::affine_at(s, at + 41),
-        4 => strip_format::affine_at(s, at + 41),
-        5 => strip_format::affine_at(s, at + 13),
-        7 => strip_format::affine_at(s, at + 25),
+        3 => strip_format::affine_inside(s, at + 41),
+        4 => strip_format::affine_inside(s, at + 41),
+        5 => strip_format::affine_inside(s, at + 13),
+        7 => strip_format::affine_inside(s, at + 25),
         _ => Affine {
             a: 0.0,
             b: 0.0,

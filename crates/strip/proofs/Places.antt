@@ -51,7 +51,7 @@ by-kind P b known d fill stroke run scene =
     λ n5. either b 7 (λ e. subst P (sym e) scene)
     λ n7. absurd (none b (low b (d .0) (d .1) (d .2) n3) (high b known (d .3) n7) n4 n5)
 
--- an inflated box
+-- a box, inflated by the operands of its STROKE
 abbrev inflated : List ℕ → ℕ → Rect → Rect
 inflated s at box = inflate box (strokeBoundsInflation (strokeAt s (at + 97))) (strokeBoundsInflation (strokeAt s (at + 97)))
 
@@ -59,7 +59,7 @@ inflated s at box = inflate box (strokeBoundsInflation (strokeAt s (at + 97))) (
 inflated-by : {read bounds by : Rect} {stroke operands : Stroke} {inflation : Float} → read ≡ bounds → stroke ≡ operands → inflation ≡ strokeBoundsInflation stroke → by ≡ inflate read inflation inflation → by ≡ inflate bounds (strokeBoundsInflation operands) (strokeBoundsInflation operands)
 inflated-by e f g h = cc
 
--- both stand within the strip, with finite floats, and are the command's
+-- affine and box stand within the strip, with finite floats, and are the command's
 pub record Placed (s : List ℕ) (at b : ℕ) : Type 0 where
   pub affine-room : affineOffset at b + 48 ≤ length s
   pub affine-finite : FourFinite s (affineOffset at b) × FourFinite s (affineOffset at b + 16)
@@ -70,7 +70,7 @@ pub record Placed (s : List ℕ) (at b : ℕ) : Type 0 where
   pub rect-here : (b ≡ 4 → ⊥) → announced s at b ≡ 0 → OwnBounds s at (rectAt s (rectOffset at b))
 
 module _ (s : List ℕ) (at : ℕ) where
-  -- by the command that stands there
+  -- the same by the command that stands there
   place : (b : ℕ) (c : DrawCommand)
       → c ≡ commandAt s at
       → FourFinite s (rectOffset at b) × FourFinite s (affineOffset at b) × FourFinite s (affineOffset at b + 16)

@@ -1,4 +1,4 @@
--- What a step is, once the box of what it draws is transformed; and steps that only move the cursor.
+-- What a step is, once the box of what it draws is transformed; what is known of a command whose operands passed; and steps that only move the cursor.
 use mathlib.Core.Path.{_≡_}
 use mathlib.Core.Bool.{true}
 use mathlib.Core.List.{List}
@@ -52,7 +52,6 @@ abbrev pub OwnBounds : List ℕ → ℕ → Rect → Type 0
 OwnBounds s at box = (united : Rect) → box ≡ localWith (commandAt s at) united
 
 -- ---- steps that only move the cursor
-
 -- a GLYPH that is due stands at the cursor, is not the last of its run and passes, by this affine
 pub record GoesOn (s : List ℕ) (st : Cursor) (t : Affine) : Type 0 where
   pub more : 2 ≤ st .due

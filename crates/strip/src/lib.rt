@@ -7,7 +7,7 @@ ghost use Rattle.commands.specs.Bounds.{transformOf};
 ghost use Rattle.strip_format.specs.Format.{lengthOf, commandAt};
 ghost use Rattle.strip.specs.Steps as Steps;
 ghost use Rattle.strip.specs.Reading as Reading;
-ghost use Rattle.strip.specs.Effects as Effects;
+ghost use Rattle.strip.specs.Effects.{settled, drawEffect, Stands, DrawsAt, affineOffset, rectOffset, OwnBounds, GoesOn, Passes};
 use affine::Affine;
 use affine::Transformed;
 use geometry::Rect;
@@ -109,7 +109,7 @@ impl Cursor {
 
     fn draw(mut self, transform: Affine, bounds: Rect, len: usize) -> Effect
         requires { ⌜ self .at + len < 2 ^ 64 ⌝ }
-        ensures { λ r. ⌜ r ≡ Effects.drawEffect self transform bounds len ⌝ }
+        ensures { λ r. ⌜ r ≡ drawEffect self transform bounds len ⌝ }
     {
         let at = self.at;
         if 4096 <= self.commands {
@@ -140,8 +140,8 @@ impl Cursor {
 
     // Any drawing command. One that announces no glyph is drawn, a RUN too: in one place, so that it is compiled into its caller.
     fn draw_or_run(self, s: &[u8], b: u8) -> Effect
-        requires { ⌜ Effects.DrawsAt (now s) (self .at) b ⌝ }
-        ensures { λ r. ⌜ Effects.settled r ≡ Steps.effectOf (now (s .entry)) self b ⌝ }
+        requires { ⌜ DrawsAt (now s) (self .at) b ⌝ }
+        ensures { λ r. ⌜ settled r ≡ Steps.effectOf (now (s .entry)) self b ⌝ }
     {
         let at = self.at;
         let due = announced(s, at, b);
@@ -185,7 +185,7 @@ impl Cursor {
     // The glyph with this box, once its own corners are known to be finite.
     fn last(self, s: &[u8], bounds: Rect) -> Effect
         requires { ⌜ (self .at + 45 ≤ length (now s)) × (0 < self .due) × (self .glyphs < 16384) ⌝ }
-        ensures { λ r. ⌜ Effects.settled r ≡ Steps.lastStep (now (s .entry)) self bounds ⌝ }
+        ensures { λ r. ⌜ settled r ≡ Steps.lastStep (now (s .entry)) self bounds ⌝ }
     {
         let at = self.at;
         let run = self.run;
@@ -202,7 +202,7 @@ impl Cursor {
 
     fn glyph(self, s: &[u8]) -> Effect
         requires { ⌜ (self .at + 45 ≤ length (now s)) × (0 < self .due) ⌝ }
-        ensures { λ r. ⌜ Effects.settled r ≡ Steps.glyphStep (now (s .entry)) self ⌝ }
+        ensures { λ r. ⌜ settled r ≡ Steps.glyphStep (now (s .entry)) self ⌝ }
     {
         let at = self.at;
         let run = self.run;
@@ -221,7 +221,7 @@ impl Cursor {
 // Where the affine of a drawing command stands, by its byte.
 fn affine_offset(at: usize, b: u8) -> usize
     requires { ⌜ at + 41 < 2 ^ 64 ⌝ }
-    ensures { λ r. ⌜ r ≡ Effects.affineOffset at b ⌝ }
+    ensures { λ r. ⌜ r ≡ affineOffset at b ⌝ }
 {
     match b {
         5 => at + 13,
@@ -233,7 +233,7 @@ fn affine_offset(at: usize, b: u8) -> usize
 // Where its box stands.
 fn rect_offset(at: usize, b: u8) -> usize
     requires { ⌜ at + 73 < 2 ^ 64 ⌝ }
-    ensures { λ r. ⌜ r ≡ Effects.rectOffset at b ⌝ }
+    ensures { λ r. ⌜ r ≡ rectOffset at b ⌝ }
 {
     match b {
         5 => at + 69,
@@ -244,7 +244,7 @@ fn rect_offset(at: usize, b: u8) -> usize
 
 // The affine of a drawing command. Its floats are known to be finite, since its operands passed: no float is tested twice.
 fn drawn_transform(s: &[u8], at: usize, b: u8) -> Affine
-    requires { ⌜ Effects.DrawsAt (now s) at b ⌝ }
+    requires { ⌜ DrawsAt (now s) at b ⌝ }
     ensures { λ r. ⌜ r ≡ transformOf (commandAt (now (s .entry)) at) ⌝ }
 {
     strip_format::affine_finite(s, affine_offset(at, b))
@@ -252,8 +252,8 @@ fn drawn_transform(s: &[u8], at: usize, b: u8) -> Affine
 
 // The box of a drawing command that announces no glyph, before its transform. A STROKE's is inflated.
 fn drawn_bounds(s: &[u8], at: usize, b: u8) -> Rect
-    requires { ⌜ Effects.DrawsAt (now s) at b × (Steps.announced (now s) at b ≡ 0) ⌝ }
-    ensures { λ r. ⌜ Effects.OwnBounds (now (s .entry)) at r ⌝ }
+    requires { ⌜ DrawsAt (now s) at b × (Steps.announced (now s) at b ≡ 0) ⌝ }
+    ensures { λ r. ⌜ OwnBounds (now (s .entry)) at r ⌝ }
 {
     let bounds = strip_format::rect_finite(s, rect_offset(at, b));
     if b == 4 {
@@ -283,8 +283,8 @@ fn due_fits(b: u8, due: u64) -> bool
 }
 
 fn effect_of(s: &[u8], st: Cursor, b: u8) -> Effect
-    requires { ⌜ Effects.Stands (now s) (st .at) b × (Steps.dueFits b (st .due) ≡ true) ⌝ }
-    ensures { λ r. ⌜ Effects.settled r ≡ Steps.effectOf (now (s .entry)) st b ⌝ }
+    requires { ⌜ Stands (now s) (st .at) b × (Steps.dueFits b (st .due) ≡ true) ⌝ }
+    ensures { λ r. ⌜ settled r ≡ Steps.effectOf (now (s .entry)) st b ⌝ }
 {
     match b {
         0 => {
@@ -301,7 +301,7 @@ fn effect_of(s: &[u8], st: Cursor, b: u8) -> Effect
 
 // The step, once the box of what is drawn is transformed.
 fn settle(effect: Effect) -> Step
-    ensures { λ r. ⌜ r ≡ Effects.settled effect ⌝ }
+    ensures { λ r. ⌜ r ≡ settled effect ⌝ }
 {
     match effect {
         Effect::Drawn(next, offset, at, transform, bounds) => {
@@ -344,10 +344,11 @@ pub fn take_step(s: &[u8], st: Cursor) -> Step
 
 // True only where a glyph that is due stands at the cursor, is not the last of its run and passes, by the run's affine.
 fn glyph_goes_on(s: &[u8], st: Cursor, transform: Affine) -> bool
-    ensures { λ r. ⌜ (r ≡ true → Effects.GoesOn (now (s .entry)) st transform) ⌝ }
+    ensures { λ r. ⌜ (r ≡ true → GoesOn (now (s .entry)) st transform) ⌝ }
 {
     let at = st.at;
-    if st.due < 2 {
+    let due = st.due;
+    if due < 2 {
         return false;
     }
     if s.len() <= at {
@@ -371,7 +372,7 @@ fn glyph_goes_on(s: &[u8], st: Cursor, transform: Affine) -> bool
 
 // Past the glyphs at the cursor that only move it: as many steps at once, with the run's affine read once for all of them.
 pub fn pass_glyphs(s: &[u8], st: Cursor) -> Cursor
-    ensures { λ r. ⌜ Effects.Passes (now (s .entry)) st r ⌝ }
+    ensures { λ r. ⌜ Passes (now (s .entry)) st r ⌝ }
 {
     let run = st.run;
     if st.due < 2 {

@@ -23,7 +23,7 @@ returns-5 : tie.Need-returns-5
 returns-5 c = λ e. absurd (false≢true e)
 
 returns-6 : tie.Need-returns-6
-returns-6 c = λ e. record { more = c .before .before .before .before .before .before .before .before .before .before .if1 .left; room = omega (arith, c .before .before .before .before .before .before .before .before .before .if2 .left, c .before .before .before .before .before .before .before .before .if3 .left); byte = c .before .before .before .before .before .before .if4 .left; count = c .before .before .before .before .if5 .left; operands = sym (c .before .before .before .glyph-passes .ensures) ∙ c .before .before .if6 .taken; corners = ap (λ (b : Rect). finiteCorners (c .before .before .before .before .before .before .before .before .before .before .before .before .before .args .transform) b) (sym (c .before .rect-inside .ensures)) ∙ sym (c .finite-corners .ensures) ∙ e }
+returns-6 c = λ e. record { more = c .before .before .before .before .before .before .before .before .before .before .if1 .left; room = omega (arith, c .before .before .before .before .before .before .before .before .before .if2 .left, c .before .before .before .before .before .before .before .before .if3 .left); byte = c .before .before .before .before .before .before .if4 .left; count = c .before .before .before .before .if5 .left; operands = sym (c .before .before .before .glyph-passes .ensures) ∙ c .before .before .if6 .taken; corners = ap (λ (b : Rect). finiteCorners (c .before .before .before .before .before .before .before .before .before .before .before .before .args .transform) b) (sym (c .before .rect-inside .ensures)) ∙ sym (c .finite-corners .ensures) ∙ e }
 
 returns-7 : tie.Need-returns-7
 returns-7 c = λ e. absurd (false≢true e)
