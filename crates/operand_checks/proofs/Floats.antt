@@ -1,4 +1,4 @@
--- Operands that pass: the floats of a drawing command's affine and box are finite, so that they may be read without a test. Assumes nothing.
+-- Operands that pass: the floats of a command's affine and box are finite, so that they may be read without a test. Assumes nothing.
 use Prim.Native.Nat.{ℕ, zero, suc, _+_, _*_, _≤_, _<_}
 use mathlib.Core.List.{List}
 use mathlib.Core.Path.{_≡_, refl, subst}
@@ -10,7 +10,7 @@ use lib.ListN.{getD}
 use Rattle.lists.specs.Pick.{pick}
 use Rattle.little_endian.specs.Words.{u64At}
 use Rattle.strip_format.specs.Finite.{FourFinite}
-use Rattle.operand_checks.specs.Operands.{finiteFrom, finiteF32, finiteStroke, finiteRun, codesFit, operandsAt}
+use Rattle.operand_checks.specs.Operands.{finiteFrom, finiteF32, finiteStroke, finiteRun, finiteGlyph, codesFit, operandsAt}
 
 both : (a b : Bool) → (a && b) ≡ true → (a ≡ true) × (b ≡ true)
 both true b e = (refl, e)
@@ -60,7 +60,20 @@ module _ (s : List ℕ) where
     unfolding operandsAt
     scene-floats e = floats-pass _ e
 
-    -- box, and affine by its first and its last four floats, of each kind
+    -- the box of a CLIP and of a GLYPH
+    pub clip-finite : operandsAt s at 1 ≡ 0 → FourFinite s (at + 1)
+    unfolding operandsAt
+    clip-finite e = four-at (at + 1) 4 0 (at + 1) (floats-pass (finiteFrom s (at + 1) 4) e) (omega arith) (omega arith)
+
+    pub glyph-finite : finiteGlyph s at ≡ true → FourFinite s (at + 13)
+    unfolding finiteGlyph
+    glyph-finite e = four-at (at + 13) 4 0 (at + 13) (both (finiteF32 s (at + 9)) (finiteFrom s (at + 13) 4) (both (finiteF32 s (at + 5)) (finiteF32 s (at + 9) && finiteFrom s (at + 13) 4) e .1) .1) (omega arith) (omega arith)
+
+    pub glyph-floats : operandsAt s at 6 ≡ 0 → finiteGlyph s at ≡ true
+    unfolding operandsAt
+    glyph-floats e = floats-pass (finiteGlyph s at) e
+
+    -- box, and affine by its first and its last four floats, of each kind that draws
     path-finite : finiteFrom s (at + 9) 10 ≡ true → FourFinite s (at + 9) × FourFinite s (at + 41) × FourFinite s (at + 41 + 16)
     path-finite f = (four-at (at + 9) 10 0 (at + 9) f (omega arith) (omega arith), four-at (at + 9) 10 4 (at + 41) f (omega arith) (omega arith), four-at (at + 9) 10 6 (at + 41 + 16) f (omega arith) (omega arith))
 

@@ -1,4 +1,4 @@
--- The affine and the box of a drawing command whose operands passed, where they stand. Assumes nothing.
+-- The affine and the box of a command whose operands passed, where they stand. Assumes nothing.
 use mathlib.Core.Path.{_≡_, refl, sym, ap, subst, _∙_}
 use mathlib.Core.Bool.{Bool, true, false}
 use mathlib.Core.List.{List}
@@ -20,9 +20,18 @@ use Rattle.strip_format.specs.Format.{rectAt, affineAt, strokeAt, fillAt, strok
 use Rattle.strip_format.specs.Finite.{FourFinite}
 use Rattle.strip_format.proofs.Lengths.{length-fill, length-stroke, length-run, length-scene}
 use Rattle.strip_format.proofs.Commands.{command-fill, command-stroke, command-run, command-scene}
-use Rattle.operand_checks.proofs.Floats.{fill-finite, stroke-finite, run-finite, scene-finite}
+use Rattle.operand_checks.specs.Operands.{operandsAt}
+use Rattle.operand_checks.proofs.Floats.{clip-finite, glyph-finite, glyph-floats, fill-finite, stroke-finite, run-finite, scene-finite}
 use Rattle.strip.specs.Steps.{announced, Draws}
 use Rattle.strip.specs.Effects.{Stands, DrawsAt, affineOffset, rectOffset, OwnBounds}
+
+-- the boxes of a CLIP and of a GLYPH
+module _ (s : List ℕ) (at b : ℕ) (w : Stands s at b) where
+  pub clip-known : b ≡ 1 → FourFinite s (at + 1)
+  clip-known e = clip-finite s at (subst (λ (n : ℕ). operandsAt s at n ≡ 0) e (w .operands))
+
+  pub glyph-known : b ≡ 6 → FourFinite s (at + 13)
+  glyph-known e = glyph-finite s at (glyph-floats s at (subst (λ (n : ℕ). operandsAt s at n ≡ 0) e (w .operands)))
 
 -- by whether a number is another
 either : {P : Type 0} (b k : ℕ) → (b ≡ k → P) → ((b ≡ k → ⊥) → P) → P

@@ -5,6 +5,7 @@ ghost use Prim.Native.Nat.{_+_, _≤_, _<_, _^_};
 ghost use lib.ListN.{length};
 ghost use Rattle.commands.specs.Bounds.{transformOf};
 ghost use Rattle.strip_format.specs.Format.{lengthOf, commandAt};
+ghost use Rattle.strip_format.specs.Finite.{FourFinite};
 ghost use Rattle.strip.specs.Steps as Steps;
 ghost use Rattle.strip.specs.Reading as Reading;
 ghost use Rattle.strip.specs.Effects.{settled, drawEffect, Stands, DrawsAt, affineOffset, rectOffset, OwnBounds, GoesOn, Passes};
@@ -77,7 +78,7 @@ impl Cursor {
     }
 
     fn clip(mut self, s: &[u8]) -> Step
-        requires { ⌜ self .at + 33 ≤ length (now s) ⌝ }
+        requires { ⌜ (self .at + 33 ≤ length (now s)) × FourFinite (now s) (self .at + 1) ⌝ }
         ensures { λ r. ⌜ r ≡ Steps.clipStep (now (s .entry)) self ⌝ }
     {
         let at = self.at;
@@ -87,7 +88,7 @@ impl Cursor {
         if 4096 <= self.clips {
             return Step::Refused(6, at);
         }
-        let bounds = strip_format::rect_inside(s, at + 1);
+        let bounds = strip_format::rect_finite(s, at + 1);
         self.at = at + 33;
         self.depth = self.depth + 1;
         self.clips = self.clips + 1;
@@ -201,7 +202,7 @@ impl Cursor {
     }
 
     fn glyph(self, s: &[u8]) -> Effect
-        requires { ⌜ (self .at + 45 ≤ length (now s)) × (0 < self .due) ⌝ }
+        requires { ⌜ (self .at + 45 ≤ length (now s)) × (0 < self .due) × FourFinite (now s) (self .at + 13) ⌝ }
         ensures { λ r. ⌜ settled r ≡ Steps.glyphStep (now (s .entry)) self ⌝ }
     {
         let at = self.at;
@@ -209,7 +210,7 @@ impl Cursor {
         if 16384 <= self.glyphs {
             return Effect::Done(Step::Refused(6, at));
         }
-        let bounds = strip_format::rect_inside(s, at + 13);
+        let bounds = strip_format::rect_finite(s, at + 13);
         if command_bounds::finite_corners_at(s, run, bounds) {
             self.last(s, bounds)
         } else {
@@ -364,7 +365,7 @@ fn glyph_goes_on(s: &[u8], st: Cursor, transform: Affine) -> bool
         return false;
     }
     if operand_checks::glyph_passes(s, at) {
-        let bounds = strip_format::rect_inside(s, at + 13);
+        let bounds = strip_format::rect_finite(s, at + 13);
         return transform.finite_corners(bounds);
     }
     false
@@ -382,7 +383,7 @@ pub fn pass_glyphs(s: &[u8], st: Cursor) -> Cursor
     let mut next = st;
     while glyph_goes_on(s, next, transform) {
         let at = next.at;
-        let bounds = strip_format::rect_inside(s, at + 13);
+        let bounds = strip_format::rect_finite(s, at + 13);
         next = next.past_glyph(bounds);
     }
     next

@@ -95,17 +95,6 @@ pub fn rect_finite(s: &[u8], at: usize) -> Rect
     }
 }
 
-// A box whose bytes are all there. Its floats are tested together, so that none is tested where it is used.
-pub fn rect_inside(s: &[u8], at: usize) -> Rect
-    requires { ⌜ at + 32 ≤ length (now s) ⌝ }
-    ensures { λ r. ⌜ r ≡ Format.rectAt (now (s .entry)) at ⌝ }
-{
-    if finite_rect(s, at) {
-        return rect_finite(s, at);
-    }
-    rect_at(s, at)
-}
-
 // An affine whose last bytes may be missing.
 fn affine_cut(s: &[u8], at: usize) -> Affine
     requires { ⌜ at < length (now s) ⌝ }
@@ -163,7 +152,7 @@ pub fn affine_finite(s: &[u8], at: usize) -> Affine
     }
 }
 
-// An affine whose bytes are all there.
+// An affine whose bytes are all there. Its floats are tested together, so that none is tested where it is used.
 pub fn affine_inside(s: &[u8], at: usize) -> Affine
     requires { ⌜ at + 48 ≤ length (now s) ⌝ }
     ensures { λ r. ⌜ r ≡ Format.affineAt (now (s .entry)) at ⌝ }

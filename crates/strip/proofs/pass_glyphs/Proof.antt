@@ -6,6 +6,7 @@ use Rattle.strip.specs.declared.Step.the-variants.{Next}
 use Rattle.strip.specs.Effects.{Passes}
 use Rattle.strip.proofs.Settled.{passes-none, passes-one, goes-on, transform-is, glyph-read}
 use native.Mathlib.Omega.{arith}
+use Rattle.operand_checks.proofs.Floats.{glyph-finite}
 use Rattle.strip.proofs.pass_glyphs.Statement.{statement}
 use Rattle.strip.proofs.pass_glyphs.Tie as tie
 
@@ -27,11 +28,11 @@ loop-holds c = (c .transform-at .ensures, refl, passes-none _ _)
 glyph-goes-on-requires : tie.Need-glyph-goes-on-requires Inv-loop μ-loop
 glyph-goes-on-requires c κs = tt
 
-add-rect-inside : tie.Need-add-rect-inside Inv-loop μ-loop
-add-rect-inside c = omega (arith, (c .before .glyph-goes-on .ensures (c .if2 .taken)) .room, c .before .before .before .before .before .before .before .good .0 .0)
+add-rect-finite : tie.Need-add-rect-finite Inv-loop μ-loop
+add-rect-finite c = omega (arith, (c .before .glyph-goes-on .ensures (c .if2 .taken)) .room, c .before .before .before .before .before .before .before .good .0 .0)
 
-rect-inside-requires : tie.Need-rect-inside-requires Inv-loop μ-loop
-rect-inside-requires c κs = omega (arith, (c .before .glyph-goes-on .ensures (c .if2 .taken)) .room)
+rect-finite-requires : tie.Need-rect-finite-requires Inv-loop μ-loop
+rect-finite-requires c κs = (omega (arith, (c .before .glyph-goes-on .ensures (c .if2 .taken)) .room), glyph-finite _ _ ((c .before .glyph-goes-on .ensures (c .if2 .taken)) .operands))
 
 past-glyph-requires : tie.Need-past-glyph-requires Inv-loop μ-loop
 past-glyph-requires c κs = (omega (arith, (c .before .before .glyph-goes-on .ensures (c .before .if2 .taken)) .room, c .before .before .before .before .before .before .before .before .good .0 .0), omega (arith, (c .before .before .glyph-goes-on .ensures (c .before .if2 .taken)) .more), (c .before .before .glyph-goes-on .ensures (c .before .if2 .taken)) .count)
@@ -40,7 +41,7 @@ loop-less : tie.Need-loop-less Inv-loop μ-loop
 loop-less c = omega (arith, (c .before .before .before .glyph-goes-on .ensures (c .before .before .if2 .taken)) .more, ap (λ (x : Cursor). x .due) (c .past-glyph .ensures))
 
 loop-again : tie.Need-loop-again Inv-loop μ-loop
-loop-again c = ((c .before .before .before .before .loop .inv .0), ap (λ (x : Cursor). x .run) (c .past-glyph .ensures) ∙ c .before .before .before .before .loop .inv .1, passes-one _ _ _ _ (c .before .before .before .before .loop .inv .2) (goes-on _ _ _ (transform-is _ _ _ (c .before .before .before .before .loop .next) (c .before .before .before .before .loop .inv .0) (c .before .before .before .before .loop .inv .1)) (c .before .before .before .glyph-goes-on .ensures (c .before .before .if2 .taken)) ∙ ap Next (sym (glyph-read _ _ _ _ (c .before .rect-inside .ensures) (c .past-glyph .ensures)))))
+loop-again c = ((c .before .before .before .before .loop .inv .0), ap (λ (x : Cursor). x .run) (c .past-glyph .ensures) ∙ c .before .before .before .before .loop .inv .1, passes-one _ _ _ _ (c .before .before .before .before .loop .inv .2) (goes-on _ _ _ (transform-is _ _ _ (c .before .before .before .before .loop .next) (c .before .before .before .before .loop .inv .0) (c .before .before .before .before .loop .inv .1)) (c .before .before .before .glyph-goes-on .ensures (c .before .before .if2 .taken)) ∙ ap Next (sym (glyph-read _ _ _ _ (c .before .rect-finite .ensures) (c .past-glyph .ensures)))))
 
 returns-2 : tie.Need-returns-2 Inv-loop μ-loop
 returns-2 c = c .before .before .loop .inv .2
@@ -55,8 +56,8 @@ pass-glyphs-spec =
     transform-at-requires
     loop-holds
     glyph-goes-on-requires
-    add-rect-inside
-    rect-inside-requires
+    add-rect-finite
+    rect-finite-requires
     past-glyph-requires
     loop-less
     loop-again

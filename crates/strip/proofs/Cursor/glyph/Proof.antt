@@ -9,10 +9,10 @@ returns : tie.Need-returns
 returns c = glyph-many _ _ (c .if1 .taken)
 
 returns-2 : tie.Need-returns-2
-returns-2 c = c .last .ensures ∙ corners-finite _ _ _ (c .before .before .before .rect-inside .ensures) (c .before .before .before .before .if1 .left) (sym (c .before .before .finite-corners-at .ensures) ∙ c .before .if2 .taken)
+returns-2 c = c .last .ensures ∙ corners-finite _ _ _ (c .before .before .before .rect-finite .ensures) (c .before .before .before .before .if1 .left) (sym (c .before .before .finite-corners-at .ensures) ∙ c .before .if2 .taken)
 
 returns-3 : tie.Need-returns-3
-returns-3 c = corners-not-finite _ _ _ (c .before .before .rect-inside .ensures) (c .before .before .before .if1 .left) (sym (c .before .finite-corners-at .ensures) ∙ c .if2 .left)
+returns-3 c = corners-not-finite _ _ _ (c .before .before .rect-finite .ensures) (c .before .before .before .if1 .left) (sym (c .before .finite-corners-at .ensures) ∙ c .if2 .left)
 
 pub glyph-spec : {M : Type 1} → statement M
 glyph-spec =
