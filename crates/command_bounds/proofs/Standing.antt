@@ -1,5 +1,5 @@
 -- Which command stands at an offset, by its kind. Assumes nothing.
-use mathlib.Core.Path.{_≡_, refl, ap, subst, _∙_}
+use mathlib.Core.Path.{_≡_, refl, subst, _∙_}
 use mathlib.Core.Bool.{Bool, true, false}
 use mathlib.Core.List.{List}
 use Prim.Native.Nat.{ℕ, _+_, _≤_, _<_}
@@ -8,17 +8,10 @@ use lib.Dec.{leb}
 use lib.ListN.{length, getD}
 use borrow.Author.Tests.{leb-true, leb-false, le-leb, lt-leb}
 use Rattle.lists.proofs.Picks.{pick-true, pick-false, pick-cases}
-use lib.Ieee.{Float}
-use Rattle.geometry.specs.declared.Rect.{Rect}
-use Rattle.geometry.specs.Boxes.{inflate}
-use Rattle.commands.specs.declared.Stroke.{Stroke}
-use Rattle.commands.specs.declared.DrawCommand.{DrawCommand}
-use Rattle.commands.specs.Bounds.{transformOf}
-use Rattle.commands.specs.Strokes.{strokeBoundsInflation}
-use Rattle.strip_format.specs.Format.{lengthOf, affineAt, fillAt, strokePathAt, runAt, sceneAt, blank, commandAt}
+use Rattle.strip_format.specs.Format.{lengthOf, fillAt, strokePathAt, runAt, sceneAt, blank, commandAt}
 use Rattle.strip_format.proofs.Lengths.{length-pos, length-fill, length-stroke, length-run, length-scene}
 use Rattle.strip_format.proofs.Commands.{command-fill, command-stroke, command-run, command-scene, command-short, command-other}
-use Rattle.command_bounds.specs.Kinds.{kindAt, AffinePlace}
+use Rattle.command_bounds.specs.Kinds.{kindAt}
 
 module _ (s : List ℕ) (at : ℕ) where
   pub kind-short : length s < at + lengthOf (getD s at 0) → kindAt s at ≡ 0
@@ -58,14 +51,3 @@ module _ (s : List ℕ) (at : ℕ) where
       by : (b : Bool) → leb (at + lengthOf (getD s at 0)) (length s) ≡ b → blank ≡ commandAt s at
       by true e = let w = kind-whole (leb-true _ _ e) in command-other s at (λ q. n3 (w ∙ q)) (λ q. n4 (w ∙ q)) (λ q. n5 (w ∙ q)) (λ q. n7 (w ∙ q))
       by false e = command-short s at (leb-false _ _ e)
-
-  -- where the affine of a command that stands whole is
-  pub place-is : (r : ℕ) (d : DrawCommand) → r + 48 ≤ length s → affineAt s r ≡ transformOf d → d ≡ commandAt s at → AffinePlace s at r
-  place-is r d h e q = record { room = λ k. h; here = λ k. e ∙ ap transformOf q }
-
-  pub place-none : AffinePlace s at (length s)
-  place-none = record { room = λ k. absurd (omega arith); here = λ k. absurd (omega arith) }
-
--- a box that was inflated by what was read of its stroke
-pub inflated : {read bounds by : Rect} {stroke operands : Stroke} {inflation : Float} → read ≡ bounds → stroke ≡ operands → inflation ≡ strokeBoundsInflation stroke → by ≡ inflate read inflation inflation → by ≡ inflate bounds (strokeBoundsInflation operands) (strokeBoundsInflation operands)
-inflated e f g h = cc

@@ -154,12 +154,24 @@ pub fn operands(s: &[u8], at: usize, b: u8) -> u32
     operands_inside(s, at, b)
 }
 
-// Whether the floats of the GLYPH at an offset are finite.
+// Whether the floats of the GLYPH at an offset are finite. One that stands whole is tested here, so that this is compiled into the loop
+// over a run's glyphs.
 pub fn glyph_passes(s: &[u8], at: usize) -> bool
     ensures { λ r. ⌜ r ≡ Operands.finiteGlyph (now (s .entry)) at ⌝ }
 {
     if s.len() <= at {
         return true;
     }
-    finite_glyph(s, at)
+    if s.len() - at < 45 {
+        return finite_glyph(s, at);
+    }
+    if little_endian::finite32_inside(s, at + 5) {
+        if little_endian::finite32_inside(s, at + 9) {
+            finite_inside(s, at + 13, 4)
+        } else {
+            false
+        }
+    } else {
+        false
+    }
 }

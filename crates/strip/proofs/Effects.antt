@@ -15,12 +15,12 @@ use Rattle.geometry.specs.Boxes.{union}
 use Rattle.affine.specs.declared.Transformed.{Transformed}
 use Rattle.affine.specs.declared.Transformed.the-variants.{Finite, NotFinite}
 use Rattle.affine.specs.Affines.{tryTransform}
-use Rattle.commands.specs.Bounds.{transformOf, tryWith}
+use Rattle.commands.specs.Bounds.{transformOf}
 use Rattle.strip_format.specs.Format.{lengthOf, rectAt, commandAt}
 use Rattle.operand_checks.specs.Operands.{operandsAt}
 use Rattle.strip.specs.declared.Cursor.{Cursor}
-use Rattle.strip.specs.declared.Step.the-variants.{Next, Clip, Pop, Draw, Refused}
-use Rattle.strip.specs.Steps.{dueFits, onBox, clipStep, popStep, drawn, drawStep, runStep, announced, announce, Draws, unite, lastStep, glyphStep, endStep, effectOf, stepAt}
+use Rattle.strip.specs.declared.Step.the-variants.{Clip, Pop, Refused}
+use Rattle.strip.specs.Steps.{dueFits, onBox, clipStep, popStep, drawStep, runStep, announced, announce, Draws, unite, lastStep, glyphStep, endStep, effectOf, stepAt}
 
 -- a GLYPH that may stand here is due
 pub due-glyph : (b due : ℕ) → b ≡ 6 → dueFits b due ≡ true → 0 < due
@@ -50,18 +50,6 @@ module _ (s : List ℕ) (st : Cursor) where
   pop-read h = rw (ne-eqb (st .depth) 0 h)
 
   -- ---- drawing commands
-  pub draw-many : (len : ℕ) → 4096 ≤ st .commands → Refused 6 (st .at) ≡ drawStep s st len
-  unfolding drawStep
-  draw-many len h = rw (le-leb 4096 (st .commands) h)
-
-  pub draw-box : (len : ℕ) (box : Rect) → st .commands < 4096 → tryWith (commandAt s (st .at)) (st .united) ≡ Finite box → Draw (drawn st len 0) (st .at) box ≡ drawStep s st len
-  unfolding drawStep
-  draw-box len box h e = sym (ap (λ (t : Transformed). onBox (st .at) t (λ box. Draw (drawn st len 0) (st .at) box)) e) ∙ rw (lt-leb 4096 (st .commands) h) refl
-
-  pub draw-not-finite : (len : ℕ) → st .commands < 4096 → tryWith (commandAt s (st .at)) (st .united) ≡ NotFinite → Refused 9 (st .at) ≡ drawStep s st len
-  unfolding drawStep
-  draw-not-finite len h e = sym (ap (λ (t : Transformed). onBox (st .at) t (λ box. Draw (drawn st len 0) (st .at) box)) e) ∙ rw (lt-leb 4096 (st .commands) h) refl
-
   pub run-empty : u16At s (st .at + 101) ≡ 0 → drawStep s st 103 ≡ runStep s st
   unfolding runStep
   run-empty h = rw (eq-eqb (u16At s (st .at + 101)) 0 h)
@@ -73,29 +61,8 @@ module _ (s : List ℕ) (st : Cursor) where
   pub unite-more : (box u : Rect) → u ≡ union (st .united) box → (st .at ≡ st .run + 103 → ⊥) → u ≡ unite st box
   unite-more box u e h = e ∙ rw (ne-eqb (st .at) (st .run + 103) h)
 
-  -- a cursor past the glyph, with the union u that the code worked out
-  abbrev pub pastGlyph : Rect → Cursor
-  pastGlyph u = record { at = st .at + 45; depth = st .depth; clips = st .clips; commands = st .commands; glyphs = st .glyphs + 1; due = st .due - 1; run = st .run; united = u }
-
-  pub last-more : (box u : Rect) → u ≡ unite st box → (st .due ≡ 1 → ⊥) → Next (pastGlyph u) ≡ lastStep s st box
-  unfolding lastStep
-  last-more box u e h = ap (λ (v : Rect). Next (pastGlyph v)) e ∙ rw (ne-eqb (st .due) 1 h) refl
-
   -- the run's affine, as the code reads it, and what it makes of a box
   module _ (b : Rect) (r : Transformed) (e : r ≡ tryTransform (transformOf (commandAt s (st .run))) b) where
-    last-by : (box : Rect) → b ≡ unite st box → st .due ≡ 1 → lastStep s st box ≡ onBox (st .at) r (λ whole. Draw (pastGlyph b) (st .run) whole)
-    unfolding lastStep
-    last-by box u h =
-        rw (eq-eqb (st .due) 1 h) refl
-        ∙ ap (λ (v : Rect). onBox (st .at) (tryTransform (transformOf (commandAt s (st .run))) v) (λ whole. Draw (pastGlyph v) (st .run) whole)) (sym u)
-        ∙ ap (λ (t : Transformed). onBox (st .at) t (λ whole. Draw (pastGlyph b) (st .run) whole)) (sym e)
-
-    pub last-box : (box whole : Rect) → b ≡ unite st box → st .due ≡ 1 → r ≡ Finite whole → Draw (pastGlyph b) (st .run) whole ≡ lastStep s st box
-    last-box box whole u h k = sym (last-by box u h ∙ ap (λ (t : Transformed). onBox (st .at) t (λ whole. Draw (pastGlyph b) (st .run) whole)) k)
-
-    pub last-not-finite : (box : Rect) → b ≡ unite st box → st .due ≡ 1 → r ≡ NotFinite → Refused 9 (st .at) ≡ lastStep s st box
-    last-not-finite box u h k = sym (last-by box u h ∙ ap (λ (t : Transformed). onBox (st .at) t (λ whole. Draw (pastGlyph b) (st .run) whole)) k)
-
     glyph-by : b ≡ rectAt s (st .at + 13) → st .glyphs < 16384 → glyphStep s st ≡ onBox (st .at) r (λ own. lastStep s st b)
     unfolding glyphStep
     glyph-by u h =

@@ -2,3 +2,4 @@
 pub mod Effects
 pub mod Moves
 pub mod Settled
+mod Places

@@ -2,50 +2,51 @@
 use mathlib.Core.Path.{_≡_, refl, sym, ap, _∙_}
 use mathlib.Core.Bool.{true, false}
 use mathlib.Core.List.{List}
-use Prim.Native.Nat.{ℕ, zero, suc, _+_, _-_, _≤_, _<_}
+use Prim.Native.Nat.{ℕ, suc, _+_, _≤_, _<_}
 use native.Mathlib.Omega.{arith}
-use lib.ListN.{length, getD}
-use borrow.Author.Tests.{lt-leb, lt-ltb, eq-eqb, ne-eqb}
+use borrow.Author.Tests.{lt-ltb, eq-eqb, ne-eqb}
+use lib.Dec.{leb}
+use Rattle.lists.specs.Pick.{pick}
+use Rattle.lists.proofs.Picks.{pick-map}
 use Rattle.geometry.specs.declared.Rect.{Rect}
 use Rattle.affine.specs.declared.Affine.{Affine}
 use Rattle.affine.specs.declared.Transformed.{Transformed}
 use Rattle.affine.specs.declared.Transformed.the-variants.{Finite, NotFinite}
 use Rattle.affine.specs.Affines.{finiteCorners, tryTransform}
 use Rattle.affine.proofs.Answers.{corners-yes, corners-no}
-use Rattle.commands.specs.Bounds.{transformOf, localWith}
-use Rattle.strip_format.specs.Format.{lengthOf, rectAt, commandAt}
+use Rattle.commands.specs.Bounds.{transformOf}
+use Rattle.strip_format.specs.Format.{rectAt, commandAt}
 use Rattle.strip_format.proofs.Lengths.{length-glyph}
 use Rattle.operand_checks.specs.Operands.{finiteGlyph, operandsAt}
 use Rattle.strip.specs.declared.Cursor.{Cursor}
 use Rattle.strip.specs.declared.Effect.{Effect}
 use Rattle.strip.specs.declared.Effect.the-variants.{Drawn, Done}
-use Rattle.strip.specs.declared.Step.{Step}
 use Rattle.strip.specs.declared.Step.the-variants.{Next, Draw, Refused}
 use Rattle.strip.specs.Steps.{dueFits, onBox, drawn, drawStep, glyphRead, lastStep, glyphStep, stepAt}
-use Rattle.strip.specs.Effects.{settled, GoesOn, Moves, Passes}
+use Rattle.strip.specs.Effects.{settled, drawEffect, OwnBounds, GoesOn, Moves, Passes}
 use Rattle.strip.proofs.Effects.{glyph-box, glyph-not-finite, effect-glyph, step-effect}
 
+-- ---- an effect that was taken apart
+module _ (e : Effect) (t : Cursor) (o at : ℕ) (m : Affine) (b : Rect) (r : Transformed) (p : e ≡ Drawn t o at m b) (q : r ≡ tryTransform m b) where
+  pub settled-box : (w : Rect) → r ≡ Finite w → Draw t o w ≡ settled e
+  settled-box w f = sym (ap settled p ∙ ap (λ (x : Transformed). onBox at x (λ v. Draw t o v)) (sym q ∙ f))
+
+  pub settled-not-finite : r ≡ NotFinite → Refused 9 at ≡ settled e
+  settled-not-finite f = sym (ap settled p ∙ ap (λ (x : Transformed). onBox at x (λ v. Draw t o v)) (sym q ∙ f))
+
 module _ (s : List ℕ) where
-  -- ---- an effect that was taken apart
-  pub settled-box : (e : Effect) (t : Cursor) (o at : ℕ) (b w : Rect) (r : Transformed) → e ≡ Drawn t o at b → r ≡ tryTransform (transformOf (commandAt s o)) b → r ≡ Finite w → Draw t o w ≡ settled s e
-  settled-box e t o at b w r p q f = sym (ap (settled s) p ∙ ap (λ (x : Transformed). onBox at x (λ v. Draw t o v)) (sym q ∙ f))
-
-  pub settled-not-finite : (e : Effect) (t : Cursor) (o at : ℕ) (b : Rect) (r : Transformed) → e ≡ Drawn t o at b → r ≡ tryTransform (transformOf (commandAt s o)) b → r ≡ NotFinite → Refused 9 at ≡ settled s e
-  settled-not-finite e t o at b r p q f = sym (ap (settled s) p ∙ ap (λ (x : Transformed). onBox at x (λ v. Draw t o v)) (sym q ∙ f))
-
-  pub settled-done : (e : Effect) (x : Step) → e ≡ Done x → x ≡ settled s e
-  settled-done e x p = sym (ap (settled s) p)
-
   module _ (st : Cursor) where
-    pub draw-settles : (len : ℕ) (b : Rect) → st .commands < 4096 → b ≡ localWith (commandAt s (st .at)) (st .united) → settled s (Drawn (drawn st len 0) (st .at) (st .at) b) ≡ drawStep s st len
-    unfolding drawStep
-    draw-settles len b h e =
-        ap (λ (x : Rect). settled s (Drawn (drawn st len 0) (st .at) (st .at) x)) e ∙ rw (lt-leb 4096 (st .commands) h) refl
+    module _ (m : Affine) (b : Rect) (e : m ≡ transformOf (commandAt s (st .at))) (f : OwnBounds s (st .at) b) where
+      pub draw-settles : (len : ℕ) → settled (drawEffect st m b len) ≡ drawStep s st len
+      unfolding drawStep
+      draw-settles len =
+          pick-map settled (leb 4096 (st .commands)) (Done (Refused 6 (st .at))) (Drawn (drawn st len 0) (st .at) (st .at) m b)
+          ∙ (λ i. pick (leb 4096 (st .commands)) (Refused 6 (st .at)) (onBox (st .at) (tryTransform (e i) (f (st .united) i)) (λ box. Draw (drawn st len 0) (st .at) box)))
 
     module _ (next : Cursor) (b : Rect) (e : next ≡ glyphRead st b) where
-      pub last-settles : st .due ≡ 1 → settled s (Drawn next (st .run) (st .at) (next .united)) ≡ lastStep s st b
+      pub last-settles : (m : Affine) → m ≡ transformOf (commandAt s (st .run)) → st .due ≡ 1 → settled (Drawn next (st .run) (st .at) m (next .united)) ≡ lastStep s st b
       unfolding lastStep
-      last-settles h = ap (λ (x : Cursor). settled s (Drawn x (st .run) (st .at) (x .united))) e ∙ rw (eq-eqb (st .due) 1 h) refl
+      last-settles m f h = (λ i. settled (Drawn (e i) (st .run) (st .at) (f i) (e i .united))) ∙ rw (eq-eqb (st .due) 1 h) refl
 
       pub more-settles : (st .due ≡ 1 → ⊥) → Next next ≡ lastStep s st b
       unfolding lastStep

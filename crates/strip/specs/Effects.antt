@@ -1,25 +1,57 @@
--- What a step is, once the box of what it draws is transformed; and steps that only move the cursor.
+-- What a step is, once the box of what it draws is transformed; what is known of a command whose operands passed; and steps that only move the cursor.
 use mathlib.Core.Path.{_≡_}
 use mathlib.Core.Bool.{true}
 use mathlib.Core.List.{List}
 use Prim.Native.Nat.{ℕ, zero, suc, _+_, _≤_, _<_}
+use lib.Dec.{leb, eqb}
 use lib.ListN.{length, getD}
+use Rattle.lists.specs.Pick.{pick}
+use Rattle.geometry.specs.declared.Rect.{Rect}
 use Rattle.affine.specs.declared.Affine.{Affine}
 use Rattle.affine.specs.Affines.{tryTransform, finiteCorners}
-use Rattle.commands.specs.Bounds.{transformOf}
-use Rattle.strip_format.specs.Format.{rectAt, commandAt}
-use Rattle.operand_checks.specs.Operands.{finiteGlyph}
+use Rattle.commands.specs.Bounds.{localWith}
+use Rattle.strip_format.specs.Format.{lengthOf, rectAt, commandAt}
+use Rattle.operand_checks.specs.Operands.{finiteGlyph, operandsAt}
 use Rattle.strip.specs.declared.Cursor.{Cursor}
 use Rattle.strip.specs.declared.Effect.{Effect}
 use Rattle.strip.specs.declared.Effect.the-variants.{Drawn, Done}
 use Rattle.strip.specs.declared.Step.{Step}
-use Rattle.strip.specs.declared.Step.the-variants.{Next, Draw}
-use Rattle.strip.specs.Steps.{onBox, stepAt}
+use Rattle.strip.specs.declared.Step.the-variants.{Next, Draw, Refused}
+use Rattle.strip.specs.Steps.{onBox, drawn, Draws, stepAt}
 
-abbrev pub settled : List ℕ → Effect → Step
-settled s (Drawn t offset at box) = onBox at (tryTransform (transformOf (commandAt s offset)) box) (λ whole. Draw t offset whole)
-settled s (Done step) = step
+abbrev pub settled : Effect → Step
+settled (Drawn t offset at m box) = onBox at (tryTransform m box) (λ whole. Draw t offset whole)
+settled (Done step) = step
 
+-- a drawing command of this length that is whole, with its affine and its box
+abbrev pub drawEffect : Cursor → Affine → Rect → ℕ → Effect
+drawEffect st m box len = pick (leb 4096 (st .commands)) (Done (Refused 6 (st .at))) (Drawn (drawn st len 0) (st .at) (st .at) m box)
+
+-- ---- the operands of a command, once they passed
+-- a command with this byte stands whole at an offset, and its operands pass
+pub record Stands (s : List ℕ) (at b : ℕ) : Type 0 where
+  pub byte : getD s at 0 ≡ b
+  pub known : b ≤ 7
+  pub room : at + lengthOf b ≤ length s
+  pub operands : operandsAt s at b ≡ 0
+
+-- and draws
+pub record DrawsAt (s : List ℕ) (at b : ℕ) : Type 0 where
+  pub stands : Stands s at b
+  pub draws : Draws b
+
+-- where the affine of a drawing command stands, and where its box does: RUN, SCENE, then FILL and STROKE
+unfoldable pub affineOffset : ℕ → ℕ → ℕ
+affineOffset at b = pick (eqb b 5) (at + 13) (pick (eqb b 7) (at + 25) (at + 41))
+
+unfoldable pub rectOffset : ℕ → ℕ → ℕ
+rectOffset at b = pick (eqb b 5) (at + 69) (pick (eqb b 7) (at + 73) (at + 9))
+
+-- the box of the command at an offset before its transform, whatever the union of its glyph boxes
+abbrev pub OwnBounds : List ℕ → ℕ → Rect → Type 0
+OwnBounds s at box = (united : Rect) → box ≡ localWith (commandAt s at) united
+
+-- ---- steps that only move the cursor
 -- a GLYPH that is due stands at the cursor, is not the last of its run and passes, by this affine
 pub record GoesOn (s : List ℕ) (st : Cursor) (t : Affine) : Type 0 where
   pub more : 2 ≤ st .due

@@ -3,10 +3,12 @@ ghost use mathlib.Core.Path.{_≡_};
 ghost use mathlib.Core.Bool.{true};
 ghost use Prim.Native.Nat.{_+_, _≤_, _<_, _^_};
 ghost use lib.ListN.{length};
-ghost use Rattle.strip_format.specs.Format.{lengthOf};
+ghost use Rattle.commands.specs.Bounds.{transformOf};
+ghost use Rattle.strip_format.specs.Format.{lengthOf, commandAt};
+ghost use Rattle.strip_format.specs.Finite.{FourFinite};
 ghost use Rattle.strip.specs.Steps as Steps;
 ghost use Rattle.strip.specs.Reading as Reading;
-ghost use Rattle.strip.specs.Effects.{settled, GoesOn, Passes};
+ghost use Rattle.strip.specs.Effects.{settled, drawEffect, Stands, DrawsAt, affineOffset, rectOffset, OwnBounds, GoesOn, Passes};
 use affine::Affine;
 use affine::Transformed;
 use geometry::Rect;
@@ -41,10 +43,10 @@ pub enum Step {
 }
 
 // What a command does, before the box of what it draws is transformed: a drawing command that is whole, with the cursor behind it,
-// its offset, where the command that completes it stands and its box; or all that there is to say. All boxes are then transformed in one
-// place, so that this is compiled into the loop that reads.
+// its offset, where the command that completes it stands, its affine and its box; or all that there is to say. All boxes are then
+// transformed in one place, so that this is compiled into the loop that reads.
 enum Effect {
-    Drawn(Cursor, usize, usize, Rect),
+    Drawn(Cursor, usize, usize, Affine, Rect),
     Done(Step),
 }
 
@@ -76,7 +78,7 @@ impl Cursor {
     }
 
     fn clip(mut self, s: &[u8]) -> Step
-        requires { ⌜ self .at + 33 ≤ length (now s) ⌝ }
+        requires { ⌜ (self .at + 33 ≤ length (now s)) × FourFinite (now s) (self .at + 1) ⌝ }
         ensures { λ r. ⌜ r ≡ Steps.clipStep (now (s .entry)) self ⌝ }
     {
         let at = self.at;
@@ -86,7 +88,7 @@ impl Cursor {
         if 4096 <= self.clips {
             return Step::Refused(6, at);
         }
-        let bounds = strip_format::rect_inside(s, at + 1);
+        let bounds = strip_format::rect_finite(s, at + 1);
         self.at = at + 33;
         self.depth = self.depth + 1;
         self.clips = self.clips + 1;
@@ -106,21 +108,19 @@ impl Cursor {
         Step::Pop(self)
     }
 
-    fn draw(mut self, s: &[u8], len: usize) -> Effect
+    fn draw(mut self, transform: Affine, bounds: Rect, len: usize) -> Effect
         requires { ⌜ self .at + len < 2 ^ 64 ⌝ }
-        ensures { λ r. ⌜ settled (now (s .entry)) r ≡ Steps.drawStep (now (s .entry)) self len ⌝ }
+        ensures { λ r. ⌜ r ≡ drawEffect self transform bounds len ⌝ }
     {
         let at = self.at;
         if 4096 <= self.commands {
             return Effect::Done(Step::Refused(6, at));
         }
-        let united = self.united;
-        let bounds = command_bounds::local_bounds_at(s, at, united);
         self.at = at + len;
         self.commands = self.commands + 1;
         self.due = 0;
         self.run = at;
-        Effect::Drawn(self, at, at, bounds)
+        Effect::Drawn(self, at, at, transform, bounds)
     }
 
     // A RUN that announces glyphs.
@@ -141,13 +141,15 @@ impl Cursor {
 
     // Any drawing command. One that announces no glyph is drawn, a RUN too: in one place, so that it is compiled into its caller.
     fn draw_or_run(self, s: &[u8], b: u8) -> Effect
-        requires { ⌜ (self .at + lengthOf b ≤ length (now s)) × Steps.Draws b ⌝ }
-        ensures { λ r. ⌜ settled (now (s .entry)) r ≡ Steps.effectOf (now (s .entry)) self b ⌝ }
+        requires { ⌜ DrawsAt (now s) (self .at) b ⌝ }
+        ensures { λ r. ⌜ settled r ≡ Steps.effectOf (now (s .entry)) self b ⌝ }
     {
         let at = self.at;
         let due = announced(s, at, b);
         if due == 0 {
-            return self.draw(s, strip_format::length_of(b));
+            let transform = drawn_transform(s, at, b);
+            let bounds = drawn_bounds(s, at, b);
+            return self.draw(transform, bounds, strip_format::length_of(b));
         }
         Effect::Done(self.run(due))
     }
@@ -184,7 +186,7 @@ impl Cursor {
     // The glyph with this box, once its own corners are known to be finite.
     fn last(self, s: &[u8], bounds: Rect) -> Effect
         requires { ⌜ (self .at + 45 ≤ length (now s)) × (0 < self .due) × (self .glyphs < 16384) ⌝ }
-        ensures { λ r. ⌜ settled (now (s .entry)) r ≡ Steps.lastStep (now (s .entry)) self bounds ⌝ }
+        ensures { λ r. ⌜ settled r ≡ Steps.lastStep (now (s .entry)) self bounds ⌝ }
     {
         let at = self.at;
         let run = self.run;
@@ -192,27 +194,74 @@ impl Cursor {
         let next = self.past_glyph(bounds);
         let united = next.united;
         if due == 1 {
-            Effect::Drawn(next, run, at, united)
+            let transform = command_bounds::transform_at(s, run);
+            Effect::Drawn(next, run, at, transform, united)
         } else {
             Effect::Done(Step::Next(next))
         }
     }
 
     fn glyph(self, s: &[u8]) -> Effect
-        requires { ⌜ (self .at + 45 ≤ length (now s)) × (0 < self .due) ⌝ }
-        ensures { λ r. ⌜ settled (now (s .entry)) r ≡ Steps.glyphStep (now (s .entry)) self ⌝ }
+        requires { ⌜ (self .at + 45 ≤ length (now s)) × (0 < self .due) × FourFinite (now s) (self .at + 13) ⌝ }
+        ensures { λ r. ⌜ settled r ≡ Steps.glyphStep (now (s .entry)) self ⌝ }
     {
         let at = self.at;
         let run = self.run;
         if 16384 <= self.glyphs {
             return Effect::Done(Step::Refused(6, at));
         }
-        let bounds = strip_format::rect_inside(s, at + 13);
+        let bounds = strip_format::rect_finite(s, at + 13);
         if command_bounds::finite_corners_at(s, run, bounds) {
             self.last(s, bounds)
         } else {
             Effect::Done(Step::Refused(9, at))
         }
+    }
+}
+
+// Where the affine of a drawing command stands, by its byte.
+fn affine_offset(at: usize, b: u8) -> usize
+    requires { ⌜ at + 41 < 2 ^ 64 ⌝ }
+    ensures { λ r. ⌜ r ≡ affineOffset at b ⌝ }
+{
+    match b {
+        5 => at + 13,
+        7 => at + 25,
+        _ => at + 41,
+    }
+}
+
+// Where its box stands.
+fn rect_offset(at: usize, b: u8) -> usize
+    requires { ⌜ at + 73 < 2 ^ 64 ⌝ }
+    ensures { λ r. ⌜ r ≡ rectOffset at b ⌝ }
+{
+    match b {
+        5 => at + 69,
+        7 => at + 73,
+        _ => at + 9,
+    }
+}
+
+// The affine of a drawing command. Its floats are known to be finite, since its operands passed: no float is tested twice.
+fn drawn_transform(s: &[u8], at: usize, b: u8) -> Affine
+    requires { ⌜ DrawsAt (now s) at b ⌝ }
+    ensures { λ r. ⌜ r ≡ transformOf (commandAt (now (s .entry)) at) ⌝ }
+{
+    strip_format::affine_finite(s, affine_offset(at, b))
+}
+
+// The box of a drawing command that announces no glyph, before its transform. A STROKE's is inflated.
+fn drawn_bounds(s: &[u8], at: usize, b: u8) -> Rect
+    requires { ⌜ DrawsAt (now s) at b × (Steps.announced (now s) at b ≡ 0) ⌝ }
+    ensures { λ r. ⌜ OwnBounds (now (s .entry)) at r ⌝ }
+{
+    let bounds = strip_format::rect_finite(s, rect_offset(at, b));
+    if b == 4 {
+        let inflation = commands::stroke_bounds_inflation(strip_format::stroke_at(s, at + 97));
+        bounds.inflate(inflation, inflation)
+    } else {
+        bounds
     }
 }
 
@@ -235,8 +284,8 @@ fn due_fits(b: u8, due: u64) -> bool
 }
 
 fn effect_of(s: &[u8], st: Cursor, b: u8) -> Effect
-    requires { ⌜ (st .at + lengthOf b ≤ length (now s)) × (Steps.dueFits b (st .due) ≡ true) ⌝ }
-    ensures { λ r. ⌜ settled (now (s .entry)) r ≡ Steps.effectOf (now (s .entry)) st b ⌝ }
+    requires { ⌜ Stands (now s) (st .at) b × (Steps.dueFits b (st .due) ≡ true) ⌝ }
+    ensures { λ r. ⌜ settled r ≡ Steps.effectOf (now (s .entry)) st b ⌝ }
 {
     match b {
         0 => {
@@ -252,12 +301,12 @@ fn effect_of(s: &[u8], st: Cursor, b: u8) -> Effect
 }
 
 // The step, once the box of what is drawn is transformed.
-fn settle(s: &[u8], effect: Effect) -> Step
-    ensures { λ r. ⌜ r ≡ settled (now (s .entry)) effect ⌝ }
+fn settle(effect: Effect) -> Step
+    ensures { λ r. ⌜ r ≡ settled effect ⌝ }
 {
     match effect {
-        Effect::Drawn(next, offset, at, bounds) => {
-            match command_bounds::transformed_at(s, offset, bounds) {
+        Effect::Drawn(next, offset, at, transform, bounds) => {
+            match transform.try_transform(bounds) {
                 Transformed::Finite(transformed) => Step::Draw(next, offset, transformed),
                 Transformed::NotFinite => Step::Refused(9, at),
             }
@@ -285,7 +334,7 @@ pub fn take_step(s: &[u8], st: Cursor) -> Step
         }
         let number = operand_checks::operands(s, at, b);
         if number == 0 {
-            settle(s, effect_of(s, st, b))
+            settle(effect_of(s, st, b))
         } else {
             Step::Refused(number, at)
         }
@@ -299,7 +348,8 @@ fn glyph_goes_on(s: &[u8], st: Cursor, transform: Affine) -> bool
     ensures { λ r. ⌜ (r ≡ true → GoesOn (now (s .entry)) st transform) ⌝ }
 {
     let at = st.at;
-    if st.due < 2 {
+    let due = st.due;
+    if due < 2 {
         return false;
     }
     if s.len() <= at {
@@ -315,7 +365,7 @@ fn glyph_goes_on(s: &[u8], st: Cursor, transform: Affine) -> bool
         return false;
     }
     if operand_checks::glyph_passes(s, at) {
-        let bounds = strip_format::rect_inside(s, at + 13);
+        let bounds = strip_format::rect_finite(s, at + 13);
         return transform.finite_corners(bounds);
     }
     false
@@ -333,7 +383,7 @@ pub fn pass_glyphs(s: &[u8], st: Cursor) -> Cursor
     let mut next = st;
     while glyph_goes_on(s, next, transform) {
         let at = next.at;
-        let bounds = strip_format::rect_inside(s, at + 13);
+        let bounds = strip_format::rect_finite(s, at + 13);
         next = next.past_glyph(bounds);
     }
     next

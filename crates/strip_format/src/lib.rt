@@ -82,20 +82,17 @@ fn finite_rect(s: &[u8], at: usize) -> bool
     false
 }
 
-// A box whose bytes are all there. Its floats are tested together, so that none is tested where it is used.
-pub fn rect_inside(s: &[u8], at: usize) -> Rect
-    requires { ⌜ at + 32 ≤ length (now s) ⌝ }
+// A box whose bytes are all there and whose floats were found to be finite: none is tested again.
+pub fn rect_finite(s: &[u8], at: usize) -> Rect
+    requires { ⌜ (at + 32 ≤ length (now s)) × FourFinite (now s) at ⌝ }
     ensures { λ r. ⌜ r ≡ Format.rectAt (now (s .entry)) at ⌝ }
 {
-    if finite_rect(s, at) {
-        return Rect {
-            x0: little_endian::f64_inside(s, at),
-            y0: little_endian::f64_inside(s, at + 8),
-            x1: little_endian::f64_inside(s, at + 16),
-            y1: little_endian::f64_inside(s, at + 24),
-        };
+    Rect {
+        x0: little_endian::f64_inside(s, at),
+        y0: little_endian::f64_inside(s, at + 8),
+        x1: little_endian::f64_inside(s, at + 16),
+        y1: little_endian::f64_inside(s, at + 24),
     }
-    rect_at(s, at)
 }
 
 // An affine whose last bytes may be missing.
@@ -140,21 +137,29 @@ pub fn affine_at(s: &[u8], at: usize) -> Affine
     }
 }
 
-// An affine whose bytes are all there.
+// An affine whose bytes are all there and whose floats were found to be finite.
+pub fn affine_finite(s: &[u8], at: usize) -> Affine
+    requires { ⌜ (at + 48 ≤ length (now s)) × FourFinite (now s) at × FourFinite (now s) (at + 16) ⌝ }
+    ensures { λ r. ⌜ r ≡ Format.affineAt (now (s .entry)) at ⌝ }
+{
+    Affine {
+        a: little_endian::f64_inside(s, at),
+        b: little_endian::f64_inside(s, at + 8),
+        c: little_endian::f64_inside(s, at + 16),
+        d: little_endian::f64_inside(s, at + 24),
+        e: little_endian::f64_inside(s, at + 32),
+        f: little_endian::f64_inside(s, at + 40),
+    }
+}
+
+// An affine whose bytes are all there. Its floats are tested together, so that none is tested where it is used.
 pub fn affine_inside(s: &[u8], at: usize) -> Affine
     requires { ⌜ at + 48 ≤ length (now s) ⌝ }
     ensures { λ r. ⌜ r ≡ Format.affineAt (now (s .entry)) at ⌝ }
 {
     if finite_rect(s, at) {
         if finite_rect(s, at + 16) {
-            return Affine {
-                a: little_endian::f64_inside(s, at),
-                b: little_endian::f64_inside(s, at + 8),
-                c: little_endian::f64_inside(s, at + 16),
-                d: little_endian::f64_inside(s, at + 24),
-                e: little_endian::f64_inside(s, at + 32),
-                f: little_endian::f64_inside(s, at + 40),
-            };
+            return affine_finite(s, at);
         }
     }
     affine_at(s, at)

@@ -1,23 +1,29 @@
-use mathlib.Core.Path.{sym}
-use borrow.Author.Needs.{needs}
 use Rattle.operand_checks.proofs.Past.{glyph-past}
+use Rattle.operand_checks.specs.Operands.{finiteGlyph}
+use Rattle.lists.proofs.Bools.{and-on, and-off}
+use mathlib.Core.Path.{sym, _∙_}
+use borrow.Author.Needs.{needs}
 use Rattle.operand_checks.proofs.glyph_passes.Statement.{statement}
 use Rattle.operand_checks.proofs.glyph_passes.Tie as tie
-use Rattle.operand_checks.proofs.glyph_passes.Reads as reads
-use Rattle.operand_checks.proofs.glyph_passes.Lts as lts
-use Rattle.operand_checks.proofs.finite_glyph.Reads as finite-glyph-reads
 
--- src/lib.rt:162:9
 returns : tie.Need-returns
 returns c = sym (glyph-past _ _ (c .if1 .taken))
 
--- src/lib.rt:164:5
-finite-glyph-requires : tie.Need-finite-glyph-requires
-finite-glyph-requires c κs = search needs
+returns-3 : tie.Need-returns-3
+unfolding finiteGlyph
+returns-3 c = c .finite-inside .ensures ∙ and-on _ _ (sym (c .before .before .finite32-inside2 .ensures) ∙ c .before .if4 .taken) ∙ and-on _ _ (sym (c .before .before .before .before .finite32-inside .ensures) ∙ c .before .before .before .if3 .taken)
 
--- src/lib.rt:158:1
-returns-2 : tie.Need-returns-2
-returns-2 c = search needs
+returns-4 : tie.Need-returns-4
+unfolding finiteGlyph
+returns-4 c = and-off _ _ (sym (c .before .finite32-inside2 .ensures) ∙ c .if4 .left) ∙ and-on _ _ (sym (c .before .before .before .finite32-inside .ensures) ∙ c .before .before .if3 .taken)
+
+returns-5 : tie.Need-returns-5
+unfolding finiteGlyph
+returns-5 c = and-off _ _ (sym (c .before .finite32-inside .ensures) ∙ c .if3 .left)
 
 pub glyph-passes-spec : {M : Type 1} → statement M
-glyph-passes-spec = tie.close (tie.spec returns finite-glyph-requires returns-2)
+glyph-passes-spec =
+    tie.close
+    (tie.spec
+    returns (λ c. search needs) (λ c κs. search needs) (λ c. search needs) (λ c. search needs) (λ c κs. search needs)
+    (λ c. search needs) (λ c κs. search needs) (λ c. search needs) (λ c κs. search needs) returns-3 returns-4 returns-5)

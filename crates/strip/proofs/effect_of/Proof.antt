@@ -2,17 +2,21 @@ use Rattle.strip_format.specs.Format.{lengthOf}
 use native.Mathlib.Omega.{arith}
 use mathlib.Core.Path.{_∙_}
 use Rattle.strip.proofs.Effects.{due-glyph, effect-end, effect-clip, effect-pop, effect-glyph}
+use Rattle.strip.proofs.Places.{clip-known, glyph-known}
 use borrow.Author.Needs.{needs}
 use Rattle.strip.proofs.effect_of.Statement.{statement}
 use Rattle.strip.proofs.effect_of.Tie as tie
 
 clip-requires : tie.Need-clip-requires
 unfolding lengthOf
-clip-requires c κs = omega (arith, rw (c .match .keys2) at (c .before .before .pre .0))
+clip-requires c κs = (omega (arith, rw (c .match .keys2) at (c .before .before .pre .0 .room)), clip-known _ _ _ (c .before .before .pre .0) (c .match .keys2))
 
 glyph-requires : tie.Need-glyph-requires
 unfolding lengthOf
-glyph-requires c κs = (omega (arith, rw (c .match .keys4) at (c .before .before .pre .0)), due-glyph _ _ (c .match .keys4) (c .before .before .pre .1))
+glyph-requires c κs = (omega (arith, rw (c .match .keys4) at (c .before .before .pre .0 .room)), due-glyph _ _ (c .match .keys4) (c .before .before .pre .1), glyph-known _ _ _ (c .before .before .pre .0) (c .match .keys4))
+
+draw-or-run-requires : tie.Need-draw-or-run-requires
+draw-or-run-requires c κs = record { stands = c .before .before .pre .0; draws = (c .match .rest .0 .0 .0 .1, c .match .rest .0 .0 .1, c .match .rest .0 .1, c .match .rest .1) }
 
 returns : tie.Need-returns
 returns c = effect-end _ _ _ (c .before .match .keys1)
@@ -30,5 +34,5 @@ pub effect-of-spec : {M : Type 1} → statement M
 effect-of-spec =
     tie.close
     (tie.spec
-    (λ c. search needs) clip-requires (λ c κs. search needs) glyph-requires (λ c κs. search needs) returns returns-2 returns-3
+    (λ c. search needs) clip-requires (λ c κs. search needs) glyph-requires draw-or-run-requires returns returns-2 returns-3
     returns-4 (λ c. search needs))

@@ -1,5 +1,4 @@
 use mathlib.Core.Path.{_≡_, refl, ap, sym, _∙_}
-use native.Mathlib.Omega.{arith}
 use Rattle.commands.specs.Bounds.{transformOf}
 use Rattle.strip_format.specs.Format.{commandAt}
 use Rattle.strip.specs.declared.Cursor.{Cursor}
@@ -7,14 +6,9 @@ use Rattle.strip.specs.declared.Step.the-variants.{Next}
 use Rattle.strip.specs.Effects.{Passes}
 use Rattle.strip.proofs.Settled.{passes-none, passes-one, goes-on, transform-is, glyph-read}
 use native.Mathlib.Omega.{arith}
+use Rattle.operand_checks.proofs.Floats.{glyph-finite}
 use Rattle.strip.proofs.pass_glyphs.Statement.{statement}
 use Rattle.strip.proofs.pass_glyphs.Tie as tie
-use Rattle.strip.proofs.pass_glyphs.Reads as reads
-use Rattle.strip.proofs.pass_glyphs.Lts as lts
-use Rattle.command_bounds.proofs.transform_at.Reads as transform-at-reads
-use Rattle.strip.proofs.Cursor.past_glyph.Reads as past-glyph-reads
-use Rattle.strip.proofs.glyph_goes_on.Reads as glyph-goes-on-reads
-use Rattle.strip_format.proofs.rect_inside.Reads as rect-inside-reads
 
 abbrev Inv-loop : tie.InvT-loop
 Inv-loop s run transform next₀ next = (transform ≡ transformOf (commandAt s run)) × (next .run ≡ run) × Passes s next₀ next
@@ -22,43 +16,33 @@ Inv-loop s run transform next₀ next = (transform ≡ transformOf (commandAt s 
 abbrev μ-loop : tie.MeasureT-loop
 μ-loop s run transform next₀ next = next .due
 
--- src/lib.rt:330:9
 returns : tie.Need-returns Inv-loop μ-loop
 returns c = passes-none _ _
 
--- src/lib.rt:332:9
 transform-at-requires : tie.Need-transform-at-requires Inv-loop μ-loop
 transform-at-requires c κs = tt
 
--- src/lib.rt:334:5
 loop-holds : tie.Need-loop-holds Inv-loop μ-loop
 loop-holds c = (c .transform-at .ensures, refl, passes-none _ _)
 
--- src/lib.rt:334:11
 glyph-goes-on-requires : tie.Need-glyph-goes-on-requires Inv-loop μ-loop
 glyph-goes-on-requires c κs = tt
 
--- src/lib.rt:336:51
-add-rect-inside : tie.Need-add-rect-inside Inv-loop μ-loop
-add-rect-inside c = omega (arith, (c .before .glyph-goes-on .ensures (c .if2 .taken)) .room, c .before .before .before .before .before .before .before .good .0 .0)
+add-rect-finite : tie.Need-add-rect-finite Inv-loop μ-loop
+add-rect-finite c = omega (arith, (c .before .glyph-goes-on .ensures (c .if2 .taken)) .room, c .before .before .before .before .before .before .before .good .0 .0)
 
--- src/lib.rt:336:13
-rect-inside-requires : tie.Need-rect-inside-requires Inv-loop μ-loop
-rect-inside-requires c κs = omega (arith, (c .before .glyph-goes-on .ensures (c .if2 .taken)) .room)
+rect-finite-requires : tie.Need-rect-finite-requires Inv-loop μ-loop
+rect-finite-requires c κs = (omega (arith, (c .before .glyph-goes-on .ensures (c .if2 .taken)) .room), glyph-finite _ _ ((c .before .glyph-goes-on .ensures (c .if2 .taken)) .operands))
 
--- src/lib.rt:337:9
 past-glyph-requires : tie.Need-past-glyph-requires Inv-loop μ-loop
 past-glyph-requires c κs = (omega (arith, (c .before .before .glyph-goes-on .ensures (c .before .if2 .taken)) .room, c .before .before .before .before .before .before .before .before .good .0 .0), omega (arith, (c .before .before .glyph-goes-on .ensures (c .before .if2 .taken)) .more), (c .before .before .glyph-goes-on .ensures (c .before .if2 .taken)) .count)
 
--- src/lib.rt:334:5
 loop-less : tie.Need-loop-less Inv-loop μ-loop
 loop-less c = omega (arith, (c .before .before .before .glyph-goes-on .ensures (c .before .before .if2 .taken)) .more, ap (λ (x : Cursor). x .due) (c .past-glyph .ensures))
 
--- src/lib.rt:334:5
 loop-again : tie.Need-loop-again Inv-loop μ-loop
-loop-again c = ((c .before .before .before .before .loop .inv .0), ap (λ (x : Cursor). x .run) (c .past-glyph .ensures) ∙ c .before .before .before .before .loop .inv .1, passes-one _ _ _ _ (c .before .before .before .before .loop .inv .2) (goes-on _ _ _ (transform-is _ _ _ (c .before .before .before .before .loop .next) (c .before .before .before .before .loop .inv .0) (c .before .before .before .before .loop .inv .1)) (c .before .before .before .glyph-goes-on .ensures (c .before .before .if2 .taken)) ∙ ap Next (sym (glyph-read _ _ _ _ (c .before .rect-inside .ensures) (c .past-glyph .ensures)))))
+loop-again c = ((c .before .before .before .before .loop .inv .0), ap (λ (x : Cursor). x .run) (c .past-glyph .ensures) ∙ c .before .before .before .before .loop .inv .1, passes-one _ _ _ _ (c .before .before .before .before .loop .inv .2) (goes-on _ _ _ (transform-is _ _ _ (c .before .before .before .before .loop .next) (c .before .before .before .before .loop .inv .0) (c .before .before .before .before .loop .inv .1)) (c .before .before .before .glyph-goes-on .ensures (c .before .before .if2 .taken)) ∙ ap Next (sym (glyph-read _ _ _ _ (c .before .rect-finite .ensures) (c .past-glyph .ensures)))))
 
--- src/lib.rt:325:1
 returns-2 : tie.Need-returns-2 Inv-loop μ-loop
 returns-2 c = c .before .before .loop .inv .2
 
@@ -72,8 +56,8 @@ pass-glyphs-spec =
     transform-at-requires
     loop-holds
     glyph-goes-on-requires
-    add-rect-inside
-    rect-inside-requires
+    add-rect-finite
+    rect-finite-requires
     past-glyph-requires
     loop-less
     loop-again

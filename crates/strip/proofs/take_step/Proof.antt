@@ -15,7 +15,7 @@ returns-3 : tie.Need-returns-3
 returns-3 c = step-short _ _ _ refl (c .before .before .before .before .before .before .if1 .left) (c .before .before .before .before .if2 .left) (sym (c .before .before .before .due-fits .ensures) ∙ c .before .before .if3 .taken) (omega (arith, c .if4 .taken, c .before .length-of .ensures))
 
 effect-of-requires : tie.Need-effect-of-requires
-effect-of-requires c κs = (omega (arith, c .before .before .if4 .left, c .before .before .before .length-of .ensures, c .before .before .before .before .before .before .before .before .if1 .left), sym (c .before .before .before .before .before .due-fits .ensures) ∙ c .before .before .before .before .if3 .taken)
+effect-of-requires c κs = (record { byte = refl; known = c .before .before .before .before .before .before .if2 .left; room = omega (arith, c .before .before .if4 .left, c .before .before .before .length-of .ensures, c .before .before .before .before .before .before .before .before .if1 .left); operands = sym (c .before .operands .ensures) ∙ c .if5 .taken }, sym (c .before .before .before .before .before .due-fits .ensures) ∙ c .before .before .before .before .if3 .taken)
 
 returns-4 : tie.Need-returns-4
 returns-4 c = c .settle .ensures ∙ c .before .effect-of .ensures ∙ step-effect _ _ _ refl (c .before .before .before .before .before .before .before .before .before .before .if1 .left) (c .before .before .before .before .before .before .before .before .if2 .left) (sym (c .before .before .before .before .before .before .before .due-fits .ensures) ∙ c .before .before .before .before .before .before .if3 .taken) _ (omega (arith, c .before .before .before .before .if4 .left, c .before .before .before .before .before .length-of .ensures)) (c .before .before .before .operands .ensures) (c .before .before .if5 .taken)

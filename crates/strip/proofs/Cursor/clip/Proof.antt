@@ -10,7 +10,7 @@ returns-2 : tie.Need-returns-2
 returns-2 c = clip-many _ _ (c .before .before .if1 .left) (c .if2 .taken)
 
 returns-3 : tie.Need-returns-3
-returns-3 c = clip-read _ _ _ (c .before .before .rect-inside .ensures) (c .before .before .before .before .before .if1 .left) (c .before .before .before .if2 .left)
+returns-3 c = clip-read _ _ _ (c .before .before .rect-finite .ensures) (c .before .before .before .before .before .if1 .left) (c .before .before .before .if2 .left)
 
 pub clip-spec : {M : Type 1} → statement M
 clip-spec =
