@@ -1,14 +1,14 @@
 // Little-endian numbers at an offset of a slice of bytes. Any offset will do: past the end a byte counts as 0. A float that is
-// infinite or a NaN reads as 0, so that no caller has to know that it is finite before it is read.
+// infinite or a NaN reads as 0, so that no caller has to know that it is finite before it is read. The functions whose names end in
+// `_inside`, and `same_bytes`, are for callers that have tested the length: they ask for it, and test nothing.
 ghost use mathlib.Core.Path.{_≡_};
-ghost use Prim.Native.Nat.{_<_, _^_};
+ghost use mathlib.Core.Bool.{true};
+ghost use Prim.Native.Nat.{_+_, _≤_, _<_, _^_};
 ghost use lib.ListN.{length, getD};
 ghost use lib.Ieee.{binary32, binary64, ofBits};
 ghost use lib.Ieee.Scale.{finite};
 ghost use Rattle.little_endian.specs.Words.{u16At, u32At, u64At, finiteOr, f32At, f64At};
 ghost use Rattle.little_endian.specs.Same.{SameBytes};
-ghost use mathlib.Core.Bool.{true};
-ghost use Prim.Native.Nat.{_+_, _≤_};
 
 fn wide(x: u8) -> u64
     ensures { λ r. ⌜ (r ≡ x) × (r < 256) ⌝ }
@@ -43,7 +43,7 @@ fn u32_cut(s: &[u8], at: usize) -> u64
         + 16777216 * wide(byte_at(s, at + 3))
 }
 
-// A number whose bytes are all there: none is asked for its place. The functions named so are for those who have tested the length.
+// A number whose bytes are all there: none is asked for its place.
 pub fn u32_inside(s: &[u8], at: usize) -> u64
     requires { ⌜ at + 4 ≤ length (now s) ⌝ }
     ensures { λ r. ⌜ (r ≡ u32At (now (s .entry)) at) × (r < 2 ^ 32) ⌝ }
@@ -157,8 +157,7 @@ pub fn f64_inside(s: &[u8], at: usize) -> f64
     f64::from_bits(u64_inside(s, at))
 }
 
-// True only where the n bytes from p on are those from q on. Eight at a time, so that fewer than eight that differ by
-// themselves are told by their numbers.
+// True only where the n bytes from p on are those from q on: compared eight at a time, as numbers, and the last few one by one.
 pub fn same_bytes(s: &[u8], p: usize, q: usize, n: usize) -> bool
     requires { ⌜ (p + n ≤ length (now s)) × (q + n ≤ length (now s)) ⌝ }
     ensures { λ r. ⌜ (r ≡ true → SameBytes (now (s .entry)) p q n) ⌝ }
@@ -178,6 +177,7 @@ pub fn same_bytes(s: &[u8], p: usize, q: usize, n: usize) -> bool
     same_tail(s, i, j, left)
 }
 
+// The same, byte by byte.
 fn same_tail(s: &[u8], p: usize, q: usize, n: usize) -> bool
     requires { ⌜ (p + n ≤ length (now s)) × (q + n ≤ length (now s)) ⌝ }
     ensures { λ r. ⌜ (r ≡ true → SameBytes (now (s .entry)) p q n) ⌝ }

@@ -1,10 +1,7 @@
 use Rattle.affine.proofs.Answers.{sum-tells}
 use Rattle.affine.proofs.all_finite.Statement.{statement}
 use Rattle.affine.proofs.all_finite.Tie as tie
-use Rattle.affine.proofs.all_finite.Reads as reads
-use Rattle.affine.proofs.all_finite.Lts as lts
 
--- src/lib.rt:54:1
 returns : tie.Need-returns
 returns c = sum-tells _ _ _ _
 

@@ -7,22 +7,16 @@ use mathlib.Core.Path.{ap, sym, _∙_}
 use borrow.Author.Needs.{needs}
 use Rattle.little_endian.proofs.f64_inside.Statement.{statement}
 use Rattle.little_endian.proofs.f64_inside.Tie as tie
-use Rattle.little_endian.proofs.f64_inside.Reads as reads
-use Rattle.little_endian.proofs.f64_inside.Lts as lts
-use Rattle.little_endian.proofs.u64_inside.Reads as u64-inside-reads
 
--- src/lib.rt:157:20
-u64-inside-requires : tie.Need-u64-inside-requires
-u64-inside-requires c κs = search needs
-
--- src/lib.rt:157:5
 float-from-bits-result : tie.Need-float-from-bits-result
 float-from-bits-result c = finite-no-nan binary64 _ (holds _ (rw (← c .u64-inside .ensures) at (c .before .before .pre .1)))
 
--- src/lib.rt:153:1
 returns : tie.Need-returns
 unfolding finiteOr
 returns c = ap (ofBits binary64) (c .u64-inside .ensures) ∙ sym (pick-true _ _ _ (c .before .before .pre .1))
 
 pub f64-inside-spec : {M : Type 1} → statement M
-f64-inside-spec = tie.close (tie.spec u64-inside-requires float-from-bits-result returns)
+f64-inside-spec =
+    tie.close
+    (tie.spec
+    (λ c κs. search needs) float-from-bits-result returns)

@@ -5,10 +5,6 @@ use mathlib.Core.Path.{sym, _∙_}
 use Rattle.little_endian.proofs.Same.{Passed, passed-none, passed-more, passed-all, same-eight}
 use Rattle.little_endian.proofs.same_bytes.Statement.{statement}
 use Rattle.little_endian.proofs.same_bytes.Tie as tie
-use Rattle.little_endian.proofs.same_bytes.Reads as reads
-use Rattle.little_endian.proofs.same_bytes.Lts as lts
-use Rattle.little_endian.proofs.same_tail.Reads as same-tail-reads
-use Rattle.little_endian.proofs.u64_inside.Reads as u64-inside-reads
 
 abbrev Inv-loop : tie.InvT-loop
 Inv-loop s p q n i₀ j₀ left₀ i j left = Passed s p q n i j left
@@ -16,43 +12,33 @@ Inv-loop s p q n i₀ j₀ left₀ i j left = Passed s p q n i j left
 abbrev μ-loop : tie.MeasureT-loop
 μ-loop s p q n i₀ j₀ left₀ i j left = left
 
--- src/lib.rt:169:5
 loop-holds : tie.Need-loop-holds Inv-loop μ-loop
 loop-holds c = passed-none _ _ _ _
 
--- src/lib.rt:170:12
 u64-inside-requires : tie.Need-u64-inside-requires Inv-loop μ-loop
 u64-inside-requires c κs = omega (arith, c .before .loop .inv .one, c .before .before .before .pre)
 
--- src/lib.rt:170:32
 u64-inside-requires-2 : tie.Need-u64-inside-requires-2 Inv-loop μ-loop
 u64-inside-requires-2 c κs = omega (arith, c .before .before .loop .inv .other, c .before .before .before .before .pre)
 
--- src/lib.rt:171:13
 add-i : tie.Need-add-i Inv-loop μ-loop
 add-i c = omega (arith, c .before .before .before .before .loop .inv .one, c .before .before .before .before .before .before .pre, c .before .before .before .before .before .before .good .0 .0)
 
--- src/lib.rt:172:13
 add-j : tie.Need-add-j Inv-loop μ-loop
 add-j c = omega (arith, c .before .before .before .before .loop .inv .other, c .before .before .before .before .before .before .pre, c .before .before .before .before .before .before .good .0 .0)
 
--- src/lib.rt:169:5
 loop-less : tie.Need-loop-less Inv-loop μ-loop
 loop-less c = omega arith
 
--- src/lib.rt:169:5
 loop-again : tie.Need-loop-again Inv-loop μ-loop
 loop-again c = passed-more _ _ _ _ _ _ _ 8 (c .before .before .before .before .loop .inv) (omega arith) (same-eight (now (c .before .before .before .before .before .before .args .s)) (λ k. c .before .before .before .before .before .shared-slice-known .given k .fits) _ _ (sym (c .before .before .u64-inside .ensures) ∙ c .if1 .taken ∙ c .before .u64-inside2 .ensures))
 
--- src/lib.rt:175:13
 returns : tie.Need-returns Inv-loop μ-loop
 returns c = λ e. absurd (false≢true e)
 
--- src/lib.rt:178:5
 same-tail-requires : tie.Need-same-tail-requires Inv-loop μ-loop
 same-tail-requires c κs = (omega (arith, c .before .loop .inv .one, c .before .before .before .pre), omega (arith, c .before .loop .inv .other, c .before .before .before .pre))
 
--- src/lib.rt:162:1
 returns-2 : tie.Need-returns-2 Inv-loop μ-loop
 returns-2 c = λ e. passed-all _ _ _ _ _ _ _ (c .before .before .loop .inv) (c .same-tail .ensures e)
 

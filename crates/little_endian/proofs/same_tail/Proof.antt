@@ -4,8 +4,6 @@ use Rattle.little_endian.proofs.Same.{Passed, passed-none, passed-more,
 use native.Mathlib.Omega.{arith}
 use Rattle.little_endian.proofs.same_tail.Statement.{statement}
 use Rattle.little_endian.proofs.same_tail.Tie as tie
-use Rattle.little_endian.proofs.same_tail.Reads as reads
-use Rattle.little_endian.proofs.same_tail.Lts as lts
 
 abbrev Inv-loop : tie.InvT-loop
 Inv-loop s p q n i₀ j₀ left₀ i j left = Passed s p q n i j left
@@ -13,43 +11,33 @@ Inv-loop s p q n i₀ j₀ left₀ i j left = Passed s p q n i j left
 abbrev μ-loop : tie.MeasureT-loop
 μ-loop s p q n i₀ j₀ left₀ i j left = left
 
--- src/lib.rt:188:5
 loop-holds : tie.Need-loop-holds Inv-loop μ-loop
 loop-holds c = passed-none _ _ _ _
 
--- src/lib.rt:189:12
 shared-slice-read-if1 : tie.Need-shared-slice-read-if1 Inv-loop μ-loop
 shared-slice-read-if1 c = omega (arith, c .before .before .loop .inv .one, c .before .before .before .pre)
 
--- src/lib.rt:189:20
 shared-slice-read-if1-2 : tie.Need-shared-slice-read-if1-2 Inv-loop μ-loop
 shared-slice-read-if1-2 c = omega (arith, c .before .before .before .loop .inv .other, c .before .before .before .before .pre)
 
--- src/lib.rt:190:13
 add-i : tie.Need-add-i Inv-loop μ-loop
 add-i c = omega (arith, c .before .before .before .before .loop .inv .one, c .before .before .before .before .before .pre, c .before .before .before .before .before .good .0 .0)
 
--- src/lib.rt:191:13
 add-j : tie.Need-add-j Inv-loop μ-loop
 add-j c = omega (arith, c .before .before .before .before .loop .inv .other, c .before .before .before .before .before .pre, c .before .before .before .before .before .good .0 .0)
 
--- src/lib.rt:192:13
 sub-left : tie.Need-sub-left Inv-loop μ-loop
 sub-left c = omega arith
 
--- src/lib.rt:188:5
 loop-less : tie.Need-loop-less Inv-loop μ-loop
 loop-less c = omega arith
 
--- src/lib.rt:188:5
 loop-again : tie.Need-loop-again Inv-loop μ-loop
 loop-again c = passed-more _ _ _ _ _ _ _ 1 (c .before .before .before .before .loop .inv) (omega arith) (same-one _ _ _ (c .if1 .taken))
 
--- src/lib.rt:194:13
 returns : tie.Need-returns Inv-loop μ-loop
 returns c = λ e. absurd (false≢true e)
 
--- src/lib.rt:181:1
 returns-2 : tie.Need-returns-2 Inv-loop μ-loop
 returns-2 c = λ e. passed-all _ _ _ _ _ _ _ (c .before .loop .inv) (same-short _ _ _ _ (c .loop-test .left))
 
