@@ -39,6 +39,14 @@ pub passed-all : (s : List ℕ) (p q n i j left : ℕ) → Passed s p q n i j le
 unfolding SameBytes
 passed-all s p q n i j left w b k h = passed-more s p q n i j left left w (omega arith) b .same k (omega arith)
 
+-- some, and then some more
+pub same-then : (s : List ℕ) (i j m n : ℕ) → SameBytes s i j m → SameBytes s (i + m) (j + m) n → SameBytes s i j (m + n)
+unfolding SameBytes
+same-then s i j m n a b k h = by-le m k (λ g. there i g ∙ b (k - m) (omega arith) ∙ sym (there j g)) (λ g. a k g)
+  where
+    there : (x : ℕ) → m ≤ k → getD s (x + k) 0 ≡ getD s (x + m + (k - m)) 0
+    there x g = ap (λ (z : ℕ). getD s z 0) (omega arith)
+
 -- none is left
 pub same-short : (s : List ℕ) (i j left : ℕ) → left ≤ 0 → SameBytes s i j left
 unfolding SameBytes
@@ -88,3 +96,10 @@ module _ (s : List ℕ) (bytes : (k : ℕ) → getD s k 0 < 256) where
     where
       there : (x k : ℕ) → 4 ≤ k → getD s (x + k) 0 ≡ getD s (x + 4 + (k - 4)) 0
       there x k g = ap (λ (z : ℕ). getD s z 0) (omega arith)
+
+  -- four numbers in a row
+  pub same-numbers : (i j : ℕ) → u64At s i ≡ u64At s j → u64At s (i + 8) ≡ u64At s (j + 8) → u64At s (i + 16) ≡ u64At s (j + 16) → u64At s (i + 24) ≡ u64At s (j + 24) → SameBytes s i j 32
+  same-numbers i j a b c d =
+      same-then s i j 24 8
+      (same-then s i j 16 8 (same-then s i j 8 8 (same-eight i j a) (same-eight (i + 8) (j + 8) b)) (same-eight (i + 16) (j + 16) c))
+      (same-eight (i + 24) (j + 24) d)

@@ -157,8 +157,43 @@ pub fn f64_inside(s: &[u8], at: usize) -> f64
     f64::from_bits(u64_inside(s, at))
 }
 
-// True only where the n bytes from p on are those from q on: compared eight at a time, as numbers, and the last few one by one.
+// True only where the 32 bytes from p on are those from q on, compared as four numbers.
+fn same_block(s: &[u8], p: usize, q: usize) -> bool
+    requires { ⌜ (p + 32 ≤ length (now s)) × (q + 32 ≤ length (now s)) ⌝ }
+    ensures { λ r. ⌜ (r ≡ true → SameBytes (now (s .entry)) p q 32) ⌝ }
+{
+    if u64_inside(s, p) == u64_inside(s, q) {
+        if u64_inside(s, p + 8) == u64_inside(s, q + 8) {
+            if u64_inside(s, p + 16) == u64_inside(s, q + 16) {
+                return u64_inside(s, p + 24) == u64_inside(s, q + 24);
+            }
+        }
+    }
+    false
+}
+
+// True only where the n bytes from p on are those from q on: compared in blocks, and the last few one by one.
 pub fn same_bytes(s: &[u8], p: usize, q: usize, n: usize) -> bool
+    requires { ⌜ (p + n ≤ length (now s)) × (q + n ≤ length (now s)) ⌝ }
+    ensures { λ r. ⌜ (r ≡ true → SameBytes (now (s .entry)) p q n) ⌝ }
+{
+    let mut i = p;
+    let mut j = q;
+    let mut left = n;
+    while 32 <= left {
+        if same_block(s, i, j) {
+            i += 32;
+            j += 32;
+            left -= 32;
+        } else {
+            return false;
+        }
+    }
+    same_words(s, i, j, left)
+}
+
+// The same, eight bytes at a time.
+fn same_words(s: &[u8], p: usize, q: usize, n: usize) -> bool
     requires { ⌜ (p + n ≤ length (now s)) × (q + n ≤ length (now s)) ⌝ }
     ensures { λ r. ⌜ (r ≡ true → SameBytes (now (s .entry)) p q n) ⌝ }
 {

@@ -1,8 +1,6 @@
-use denote.Ref.{now}
 use mathlib.Core.Bool.{false≢true}
 use native.Mathlib.Omega.{arith}
-use mathlib.Core.Path.{sym, _∙_}
-use Rattle.little_endian.proofs.Same.{Passed, passed-none, passed-more, passed-all, same-eight}
+use Rattle.little_endian.proofs.Same.{Passed, passed-none, passed-more, passed-all}
 use Rattle.little_endian.proofs.same_bytes.Statement.{statement}
 use Rattle.little_endian.proofs.same_bytes.Tie as tie
 
@@ -15,32 +13,29 @@ abbrev μ-loop : tie.MeasureT-loop
 loop-holds : tie.Need-loop-holds Inv-loop μ-loop
 loop-holds c = passed-none _ _ _ _
 
-u64-inside-requires : tie.Need-u64-inside-requires Inv-loop μ-loop
-u64-inside-requires c κs = omega (arith, c .before .loop .inv .one, c .before .before .before .pre)
-
-u64-inside-requires-2 : tie.Need-u64-inside-requires-2 Inv-loop μ-loop
-u64-inside-requires-2 c κs = omega (arith, c .before .before .loop .inv .other, c .before .before .before .before .pre)
+same-block-requires : tie.Need-same-block-requires Inv-loop μ-loop
+same-block-requires c κs = (omega (arith, c .before .loop .inv .one, c .before .before .before .pre), omega (arith, c .before .loop .inv .other, c .before .before .before .pre))
 
 add-i : tie.Need-add-i Inv-loop μ-loop
-add-i c = omega (arith, c .before .before .before .before .loop .inv .one, c .before .before .before .before .before .before .pre, c .before .before .before .before .before .before .good .0 .0)
+add-i c = omega (arith, c .before .before .before .loop .inv .one, c .before .before .before .before .before .pre, c .before .before .before .before .before .good .0 .0)
 
 add-j : tie.Need-add-j Inv-loop μ-loop
-add-j c = omega (arith, c .before .before .before .before .loop .inv .other, c .before .before .before .before .before .before .pre, c .before .before .before .before .before .before .good .0 .0)
+add-j c = omega (arith, c .before .before .before .loop .inv .other, c .before .before .before .before .before .pre, c .before .before .before .before .before .good .0 .0)
 
 loop-less : tie.Need-loop-less Inv-loop μ-loop
 loop-less c = omega arith
 
 loop-again : tie.Need-loop-again Inv-loop μ-loop
-loop-again c = passed-more _ _ _ _ _ _ _ 8 (c .before .before .before .before .loop .inv) (omega arith) (same-eight (now (c .before .before .before .before .before .before .args .s)) (λ k. c .before .before .before .before .before .shared-slice-known .given k .fits) _ _ (sym (c .before .before .u64-inside .ensures) ∙ c .if1 .taken ∙ c .before .u64-inside2 .ensures))
+loop-again c = passed-more _ _ _ _ _ _ _ 32 (c .before .before .before .loop .inv) (omega arith) (c .before .same-block .ensures (c .if1 .taken))
 
 returns : tie.Need-returns Inv-loop μ-loop
 returns c = λ e. absurd (false≢true e)
 
-same-tail-requires : tie.Need-same-tail-requires Inv-loop μ-loop
-same-tail-requires c κs = (omega (arith, c .before .loop .inv .one, c .before .before .before .pre), omega (arith, c .before .loop .inv .other, c .before .before .before .pre))
+same-words-requires : tie.Need-same-words-requires Inv-loop μ-loop
+same-words-requires c κs = (omega (arith, c .before .loop .inv .one, c .before .before .before .pre), omega (arith, c .before .loop .inv .other, c .before .before .before .pre))
 
 returns-2 : tie.Need-returns-2 Inv-loop μ-loop
-returns-2 c = λ e. passed-all _ _ _ _ _ _ _ (c .before .before .loop .inv) (c .same-tail .ensures e)
+returns-2 c = λ e. passed-all _ _ _ _ _ _ _ (c .before .before .loop .inv) (c .same-words .ensures e)
 
 pub same-bytes-spec : {M : Type 1} → statement M
 same-bytes-spec =
@@ -49,12 +44,11 @@ same-bytes-spec =
     Inv-loop
     μ-loop
     loop-holds
-    u64-inside-requires
-    u64-inside-requires-2
+    same-block-requires
     add-i
     add-j
     loop-less
     loop-again
     returns
-    same-tail-requires
+    same-words-requires
     returns-2)
