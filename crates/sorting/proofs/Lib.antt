@@ -2,5 +2,6 @@
 pub mod Sorts
 pub mod Ascents
 pub mod Merges
+pub mod Halves
 pub mod Insertions
 mod Examples
