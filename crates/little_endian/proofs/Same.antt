@@ -39,6 +39,22 @@ pub passed-all : (s : List ℕ) (p q n i j left : ℕ) → Passed s p q n i j le
 unfolding SameBytes
 passed-all s p q n i j left w b k h = passed-more s p q n i j left left w (omega arith) b .same k (omega arith)
 
+-- but for the last seven at most
+pub passed-most : (s : List ℕ) (p q n i j left : ℕ) → Passed s p q n i j left → left ≤ 7 → SameBytes s p q (n - 7)
+unfolding SameBytes
+passed-most s p q n i j left w h k f = w .same k (omega (arith, w .short))
+
+-- and then the last eight, of which some may have been compared
+pub passed-last : (s : List ℕ) (p q n i j left : ℕ) → Passed s p q n i j left → SameBytes s i j (left - 7) → 8 ≤ n → SameBytes s (p + (n - 8)) (q + (n - 8)) 8 → SameBytes s p q n
+unfolding SameBytes
+passed-last s p q n i j left w b h e k f =
+    by-le (n - 8) k
+    (λ g. there p g ∙ e (k - (n - 8)) (omega arith) ∙ sym (there q g))
+    (λ g. passed-more s p q n i j left (left - 7) w (omega arith) b .same k (omega (arith, w .short)))
+  where
+    there : (x : ℕ) → n - 8 ≤ k → getD s (x + k) 0 ≡ getD s (x + (n - 8) + (k - (n - 8))) 0
+    there x g = ap (λ (z : ℕ). getD s z 0) (omega arith)
+
 -- some, and then some more
 pub same-then : (s : List ℕ) (i j m n : ℕ) → SameBytes s i j m → SameBytes s (i + m) (j + m) n → SameBytes s i j (m + n)
 unfolding SameBytes

@@ -3,7 +3,7 @@
 // `_inside`, and `same_bytes`, are for callers that have tested the length: they ask for it, and test nothing.
 ghost use mathlib.Core.Path.{_≡_};
 ghost use mathlib.Core.Bool.{true};
-ghost use Prim.Native.Nat.{_+_, _≤_, _<_, _^_};
+ghost use Prim.Native.Nat.{_+_, _-_, _≤_, _<_, _^_};
 ghost use lib.ListN.{length, getD};
 ghost use lib.Ieee.{binary32, binary64, ofBits};
 ghost use lib.Ieee.Scale.{finite};
@@ -172,7 +172,8 @@ fn same_block(s: &[u8], p: usize, q: usize) -> bool
     false
 }
 
-// True only where the n bytes from p on are those from q on: compared in blocks, and the last few one by one.
+// True only where the n bytes from p on are those from q on: compared in blocks, then eight at a time. The last eight are compared
+// even if some of them were, for that takes one step where up to seven bytes by themselves take seven.
 pub fn same_bytes(s: &[u8], p: usize, q: usize, n: usize) -> bool
     requires { ⌜ (p + n ≤ length (now s)) × (q + n ≤ length (now s)) ⌝ }
     ensures { λ r. ⌜ (r ≡ true → SameBytes (now (s .entry)) p q n) ⌝ }
@@ -189,13 +190,19 @@ pub fn same_bytes(s: &[u8], p: usize, q: usize, n: usize) -> bool
             return false;
         }
     }
-    same_words(s, i, j, left)
+    if same_words(s, i, j, left) {
+        if n < 8 {
+            return same_tail(s, p, q, n);
+        }
+        return u64_inside(s, p + (n - 8)) == u64_inside(s, q + (n - 8));
+    }
+    false
 }
 
-// The same, eight bytes at a time.
+// The same, eight bytes at a time, but for the last seven.
 fn same_words(s: &[u8], p: usize, q: usize, n: usize) -> bool
     requires { ⌜ (p + n ≤ length (now s)) × (q + n ≤ length (now s)) ⌝ }
-    ensures { λ r. ⌜ (r ≡ true → SameBytes (now (s .entry)) p q n) ⌝ }
+    ensures { λ r. ⌜ (r ≡ true → SameBytes (now (s .entry)) p q (n - 7)) ⌝ }
 {
     let mut i = p;
     let mut j = q;
@@ -209,7 +216,7 @@ fn same_words(s: &[u8], p: usize, q: usize, n: usize) -> bool
             return false;
         }
     }
-    same_tail(s, i, j, left)
+    true
 }
 
 // The same, byte by byte.

@@ -1,6 +1,10 @@
+-- `little_endian::same_bytes` meets its contract: the blocks, the words and the last eight bytes together are all. Assumes nothing.
+use Rattle.little_endian.proofs.Same.{Passed, passed-none, passed-more, passed-last, same-eight}
+use borrow.Author.Tests.{eqb-true}
+use mathlib.Core.Path.{sym, _∙_}
 use mathlib.Core.Bool.{false≢true}
+use denote.Ref.{now}
 use native.Mathlib.Omega.{arith}
-use Rattle.little_endian.proofs.Same.{Passed, passed-none, passed-more, passed-all}
 use Rattle.little_endian.proofs.same_bytes.Statement.{statement}
 use Rattle.little_endian.proofs.same_bytes.Tie as tie
 
@@ -34,8 +38,29 @@ returns c = λ e. absurd (false≢true e)
 same-words-requires : tie.Need-same-words-requires Inv-loop μ-loop
 same-words-requires c κs = (omega (arith, c .before .loop .inv .one, c .before .before .before .pre), omega (arith, c .before .loop .inv .other, c .before .before .before .pre))
 
+same-tail-requires : tie.Need-same-tail-requires Inv-loop μ-loop
+same-tail-requires c κs = c .before .before .before .before .before .before .pre
+
 returns-2 : tie.Need-returns-2 Inv-loop μ-loop
-returns-2 c = λ e. passed-all _ _ _ _ _ _ _ (c .before .before .loop .inv) (c .same-words .ensures e)
+returns-2 c = λ e. c .same-tail .ensures e
+
+add-u64-inside : tie.Need-add-u64-inside Inv-loop μ-loop
+add-u64-inside c = omega (arith, c .before .before .before .before .before .before .pre, c .before .before .before .before .before .before .good .0 .0)
+
+u64-inside-requires : tie.Need-u64-inside-requires Inv-loop μ-loop
+u64-inside-requires c κs = omega (arith, c .before .before .before .before .before .before .pre)
+
+add-u64-inside-2 : tie.Need-add-u64-inside-2 Inv-loop μ-loop
+add-u64-inside-2 c = omega (arith, c .before .before .before .before .before .before .before .pre, c .before .before .before .before .before .before .before .good .0 .0)
+
+u64-inside-requires-2 : tie.Need-u64-inside-requires-2 Inv-loop μ-loop
+u64-inside-requires-2 c κs = omega (arith, c .before .before .before .before .before .before .before .pre)
+
+returns-3 : tie.Need-returns-3 Inv-loop μ-loop
+returns-3 c = λ e. passed-last _ _ _ _ _ _ _ (c .before .before .before .before .before .before .loop .inv) (c .before .before .before .before .same-words .ensures (c .before .before .before .if2 .taken)) (omega arith) (same-eight (now (c .before .before .before .before .before .before .before .before .args .s)) (λ k. c .before .before .before .before .before .before .before .shared-slice-known .given k .fits) _ _ (sym (c .before .u64-inside .ensures) ∙ eqb-true _ _ e ∙ c .u64-inside2 .ensures))
+
+returns-4 : tie.Need-returns-4 Inv-loop μ-loop
+returns-4 c = λ e. absurd (false≢true e)
 
 pub same-bytes-spec : {M : Type 1} → statement M
 same-bytes-spec =
@@ -51,4 +76,11 @@ same-bytes-spec =
     loop-again
     returns
     same-words-requires
-    returns-2)
+    same-tail-requires
+    returns-2
+    add-u64-inside
+    u64-inside-requires
+    add-u64-inside-2
+    u64-inside-requires-2
+    returns-3
+    returns-4)

@@ -1,5 +1,4 @@
 use mathlib.Core.Bool.{false≢true}
-use denote.Ref.{now}
 use Rattle.little_endian.proofs.Same.{Passed, passed-none, passed-more, passed-all, same-one, same-short}
 use native.Mathlib.Omega.{arith}
 use Rattle.little_endian.proofs.same_tail.Statement.{statement}
