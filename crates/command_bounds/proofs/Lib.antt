@@ -1,1 +1,2 @@
-mod Standing
+-- Laws of the definitions in specs/, for the crates above.
+pub mod Standing

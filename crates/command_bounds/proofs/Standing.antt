@@ -25,7 +25,7 @@ module _ (s : List ℕ) (at : ℕ) where
   unfolding kindAt
   kind-whole p = pick-true (leb (at + lengthOf (getD s at 0)) (length s)) _ _ (le-leb _ _ p)
 
-  stands : (k : ℕ) → 0 < k → kindAt s at ≡ k → (getD s at 0 ≡ k) × (at + lengthOf k ≤ length s)
+  pub stands : (k : ℕ) → 0 < k → kindAt s at ≡ k → (getD s at 0 ≡ k) × (at + lengthOf k ≤ length s)
   unfolding kindAt
   stands k more =
       pick-cases (λ n. n ≡ k → (getD s at 0 ≡ k) × (at + lengthOf k ≤ length s))

@@ -1,15 +1,13 @@
 // The affine of the drawing command at an offset, read where it stands: the command itself is not built. It equals what the
 // command of `strip_format::command_at` answers.
 ghost use mathlib.Core.Path.{_≡_};
-ghost use Rattle.affine.specs.Affines.{finiteCorners};
 ghost use Rattle.commands.specs.Bounds as Bounds;
 ghost use Rattle.strip_format.specs.Format.{commandAt};
 ghost use Rattle.command_bounds.specs.Kinds.{kindAt};
 use affine::Affine;
-use geometry::Rect;
 
 // The byte of the command that stands whole at an offset, else 0.
-fn kind_at(s: &[u8], at: usize) -> u8
+pub fn kind_at(s: &[u8], at: usize) -> u8
     ensures { λ r. ⌜ r ≡ kindAt (now (s .entry)) at ⌝ }
 {
     if s.len() <= at {
@@ -39,12 +37,4 @@ pub fn transform_at(s: &[u8], at: usize) -> Affine
             f: 0.0,
         },
     }
-}
-
-// Whether all corners of a box by the affine of the command at an offset are finite.
-pub fn finite_corners_at(s: &[u8], at: usize, rect: Rect) -> bool
-    ensures { λ r. ⌜ r ≡ finiteCorners (Bounds.transformOf (commandAt (now (s .entry)) at)) rect ⌝ }
-{
-    let transform = transform_at(s, at);
-    transform.finite_corners(rect)
 }

@@ -3,3 +3,4 @@ pub mod Rank
 pub mod Patterns
 pub mod Values
 pub mod Differences
+pub mod Magnitudes

@@ -2,4 +2,5 @@
 pub mod Effects
 pub mod Moves
 pub mod Settled
+mod Near
 mod Places

@@ -1,13 +1,13 @@
 -- Effects whose box is still to be transformed, as the steps that they settle to; and steps that only move the cursor. Assumes nothing.
-use mathlib.Core.Path.{_≡_, refl, sym, ap, _∙_}
+use mathlib.Core.Path.{_≡_, refl, sym, ap, subst, _∙_}
 use mathlib.Core.Bool.{true, false}
 use mathlib.Core.List.{List}
-use Prim.Native.Nat.{ℕ, suc, _+_, _≤_, _<_}
+use Prim.Native.Nat.{ℕ, zero, suc, _+_, _≤_, _<_}
 use native.Mathlib.Omega.{arith}
 use borrow.Author.Tests.{lt-ltb, eq-eqb, ne-eqb}
-use lib.Dec.{leb}
+use lib.Dec.{leb, eqb}
 use Rattle.lists.specs.Pick.{pick}
-use Rattle.lists.proofs.Picks.{pick-map}
+use Rattle.lists.proofs.Picks.{pick-true, pick-false, pick-map}
 use Rattle.geometry.specs.declared.Rect.{Rect}
 use Rattle.affine.specs.declared.Affine.{Affine}
 use Rattle.affine.specs.declared.Transformed.{Transformed}
@@ -23,7 +23,7 @@ use Rattle.strip.specs.declared.Effect.{Effect}
 use Rattle.strip.specs.declared.Effect.the-variants.{Drawn, Done}
 use Rattle.strip.specs.declared.Step.the-variants.{Next, Draw, Refused}
 use Rattle.strip.specs.Steps.{dueFits, onBox, drawn, drawStep, glyphRead, lastStep, glyphStep, stepAt}
-use Rattle.strip.specs.Effects.{settled, drawEffect, OwnBounds, GoesOn, Moves, Passes}
+use Rattle.strip.specs.Effects.{settled, drawEffect, lastEffect, OwnBounds, GoesOn, Moves, Passes}
 use Rattle.strip.proofs.Effects.{glyph-box, glyph-not-finite, effect-glyph, step-effect}
 
 -- ---- an effect that was taken apart
@@ -34,6 +34,16 @@ module _ (e : Effect) (t : Cursor) (o at : ℕ) (m : Affine) (b : Rect) (r : Tra
   pub settled-not-finite : r ≡ NotFinite → Refused 9 at ≡ settled e
   settled-not-finite f = sym (ap settled p ∙ ap (λ (x : Transformed). onBox at x (λ v. Draw t o v)) (sym q ∙ f))
 
+-- ---- the last glyph of a run, and one that is not
+module _ (st : Cursor) (m : Affine) (b : Rect) where
+  pub last-one : {next : Cursor} → next ≡ glyphRead st b → st .due ≡ 1 → Drawn next (st .run) (st .at) m (next .united) ≡ lastEffect st m b
+  unfolding lastEffect
+  last-one e h = (λ i. Drawn (e i) (st .run) (st .at) m (e i .united)) ∙ sym (pick-true _ _ _ (eq-eqb (st .due) 1 h))
+
+  pub one-more : {next : Cursor} → next ≡ glyphRead st b → (st .due ≡ 1 → ⊥) → Done (Next next) ≡ lastEffect st m b
+  unfolding lastEffect
+  one-more e h = (λ i. Done (Next (e i))) ∙ sym (pick-false _ _ _ (ne-eqb (st .due) 1 h))
+
 module _ (s : List ℕ) where
   module _ (st : Cursor) where
     module _ (m : Affine) (b : Rect) (e : m ≡ transformOf (commandAt s (st .at))) (f : OwnBounds s (st .at) b) where
@@ -43,14 +53,17 @@ module _ (s : List ℕ) where
           pick-map settled (leb 4096 (st .commands)) (Done (Refused 6 (st .at))) (Drawn (drawn st len 0) (st .at) (st .at) m b)
           ∙ (λ i. pick (leb 4096 (st .commands)) (Refused 6 (st .at)) (onBox (st .at) (tryTransform (e i) (f (st .united) i)) (λ box. Draw (drawn st len 0) (st .at) box)))
 
-    module _ (next : Cursor) (b : Rect) (e : next ≡ glyphRead st b) where
-      pub last-settles : (m : Affine) → m ≡ transformOf (commandAt s (st .run)) → st .due ≡ 1 → settled (Drawn next (st .run) (st .at) m (next .united)) ≡ lastStep s st b
+    -- both, by the affine of the run
+    module _ (m : Affine) (b : Rect) where
+      more-settles : (st .due ≡ 1 → ⊥) → Next (glyphRead st b) ≡ lastStep s st b
       unfolding lastStep
-      last-settles m f h = (λ i. settled (Drawn (e i) (st .run) (st .at) (f i) (e i .united))) ∙ rw (eq-eqb (st .due) 1 h) refl
+      more-settles h = sym (pick-false _ _ _ (ne-eqb (st .due) 1 h))
 
-      pub more-settles : (st .due ≡ 1 → ⊥) → Next next ≡ lastStep s st b
-      unfolding lastStep
-      more-settles h = ap Next e ∙ rw (ne-eqb (st .due) 1 h) refl
+      pub last-settles : m ≡ transformOf (commandAt s (st .run)) → settled (lastEffect st m b) ≡ lastStep s st b
+      unfolding lastEffect lastStep
+      last-settles f =
+          pick-map settled (eqb (st .due) 1) (Drawn (glyphRead st b) (st .run) (st .at) m (glyphRead st b .united)) (Done (Next (glyphRead st b)))
+          ∙ (λ i. pick (eqb (st .due) 1) (settled (Drawn (glyphRead st b) (st .run) (st .at) (f i) (glyphRead st b .united))) (Next (glyphRead st b)))
 
     -- ---- a glyph by the test of its corners alone
     module _ (b : Rect) (e : b ≡ rectAt s (st .at + 13)) (h : st .glyphs < 16384) where
@@ -71,10 +84,10 @@ module _ (s : List ℕ) where
 
     pub goes-on : (t : Affine) → t ≡ transformOf (commandAt s (st .run)) → GoesOn s st t → stepAt s st ≡ Next (glyphRead st (rectAt s (st .at + 13)))
     goes-on t e w =
-        sym (step-effect s st 6 (w .byte) (omega (arith, w .room)) (omega arith) (due-more (w .more)) 0 (omega (arith, w .room, length-glyph)) (sym (operands-pass (w .operands))) refl)
+        sym (step-effect s st 6 (w .due .byte) (omega (arith, w .due .room)) (omega arith) (due-more (w .due .more)) 0 (omega (arith, w .due .room, length-glyph)) (sym (operands-pass (w .operands))) refl)
         ∙ sym (effect-glyph s st 6 refl)
-        ∙ sym (corners-finite (rectAt s (st .at + 13)) refl (w .count) (ap (λ (x : Affine). finiteCorners x (rectAt s (st .at + 13))) (sym e) ∙ w .corners))
-        ∙ sym (more-settles (glyphRead st (rectAt s (st .at + 13))) (rectAt s (st .at + 13)) refl (λ z. omega (arith, w .more)))
+        ∙ sym (corners-finite (rectAt s (st .at + 13)) refl (w .due .count) (ap (λ (x : Affine). finiteCorners x (rectAt s (st .at + 13))) (sym e) ∙ w .corners))
+        ∙ sym (more-settles t (rectAt s (st .at + 13)) (λ z. omega (arith, w .due .more)))
 
   pub passes-none : (st : Cursor) → Passes s st st
   unfolding Moves
@@ -83,6 +96,15 @@ module _ (s : List ℕ) where
   pub passes-one : (st u t : Cursor) → Passes s st u → stepAt s u ≡ Next t → Passes s st t
   unfolding Moves
   passes-one st u t w e = record { steps = suc (w .steps); moves = (u, w .moves, e) }
+
+  -- one row of steps after another
+  pub passes-both : (st u t : Cursor) → Passes s st u → Passes s u t → Passes s st t
+  unfolding Moves
+  passes-both st u t v w = go (w .steps) t (w .moves)
+    where
+      go : (n : ℕ) (t : Cursor) → Moves n s u t → Passes s st t
+      go zero t e = subst (Passes s st) (sym e) v
+      go (suc n) t m = passes-one st (m .0) t (go n (m .0) (m .1)) (m .2)
 
 -- the affine of a run that the cursor is still in; a cursor past a glyph whose box was read
 pub transform-is : (s : List ℕ) (t : Affine) (run : ℕ) (st : Cursor) → t ≡ transformOf (commandAt s run) → st .run ≡ run → t ≡ transformOf (commandAt s (st .run))

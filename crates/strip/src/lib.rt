@@ -8,7 +8,7 @@ ghost use Rattle.strip_format.specs.Format.{lengthOf, commandAt};
 ghost use Rattle.strip_format.specs.Finite.{FourFinite};
 ghost use Rattle.strip.specs.Steps as Steps;
 ghost use Rattle.strip.specs.Reading as Reading;
-ghost use Rattle.strip.specs.Effects.{settled, drawEffect, Stands, DrawsAt, affineOffset, rectOffset, OwnBounds, GoesOn, Passes};
+ghost use Rattle.strip.specs.Effects.{settled, drawEffect, lastEffect, Stands, DrawsAt, affineOffset, rectOffset, OwnBounds, GlyphDue, GoesOn, NearGoesOn, NearRun, Passes};
 use affine::Affine;
 use affine::Transformed;
 use geometry::Rect;
@@ -183,10 +183,10 @@ impl Cursor {
         self
     }
 
-    // The glyph with this box, once its own corners are known to be finite.
-    fn last(self, s: &[u8], bounds: Rect) -> Effect
-        requires { ⌜ (self .at + 45 ≤ length (now s)) × (0 < self .due) × (self .glyphs < 16384) ⌝ }
-        ensures { λ r. ⌜ settled r ≡ Steps.lastStep (now (s .entry)) self bounds ⌝ }
+    // The glyph with this box, once its own corners are known to be finite by the run's affine.
+    fn last(self, transform: Affine, bounds: Rect) -> Effect
+        requires { ⌜ (self .at + 45 < 2 ^ 64) × (0 < self .due) × (self .glyphs < 16384) ⌝ }
+        ensures { λ r. ⌜ r ≡ lastEffect self transform bounds ⌝ }
     {
         let at = self.at;
         let run = self.run;
@@ -194,7 +194,6 @@ impl Cursor {
         let next = self.past_glyph(bounds);
         let united = next.united;
         if due == 1 {
-            let transform = command_bounds::transform_at(s, run);
             Effect::Drawn(next, run, at, transform, united)
         } else {
             Effect::Done(Step::Next(next))
@@ -211,8 +210,9 @@ impl Cursor {
             return Effect::Done(Step::Refused(6, at));
         }
         let bounds = strip_format::rect_finite(s, at + 13);
-        if command_bounds::finite_corners_at(s, run, bounds) {
-            self.last(s, bounds)
+        let transform = command_bounds::transform_at(s, run);
+        if transform.finite_corners(bounds) {
+            self.last(transform, bounds)
         } else {
             Effect::Done(Step::Refused(9, at))
         }
@@ -283,6 +283,7 @@ fn due_fits(b: u8, due: u64) -> bool
     if b == 6 { 0 < due } else { due == 0 }
 }
 
+// The byte is handed on as it is written, not as it was read: the compiler then makes a row of code for each kind, in which all offsets stand.
 fn effect_of(s: &[u8], st: Cursor, b: u8) -> Effect
     requires { ⌜ Stands (now s) (st .at) b × (Steps.dueFits b (st .due) ≡ true) ⌝ }
     ensures { λ r. ⌜ settled r ≡ Steps.effectOf (now (s .entry)) st b ⌝ }
@@ -295,7 +296,10 @@ fn effect_of(s: &[u8], st: Cursor, b: u8) -> Effect
         }
         1 => Effect::Done(st.clip(s)),
         2 => Effect::Done(st.pop()),
+        3 => st.draw_or_run(s, 3),
+        4 => st.draw_or_run(s, 4),
         6 => st.glyph(s),
+        7 => st.draw_or_run(s, 7),
         _ => st.draw_or_run(s, b),
     }
 }
@@ -343,9 +347,9 @@ pub fn take_step(s: &[u8], st: Cursor) -> Step
     }
 }
 
-// True only where a glyph that is due stands at the cursor, is not the last of its run and passes, by the run's affine.
-fn glyph_goes_on(s: &[u8], st: Cursor, transform: Affine) -> bool
-    ensures { λ r. ⌜ (r ≡ true → GoesOn (now (s .entry)) st transform) ⌝ }
+// True only where a glyph that is due stands whole at the cursor, and is not the last of its run.
+fn glyph_due(s: &[u8], st: Cursor) -> bool
+    ensures { λ r. ⌜ (r ≡ true → GlyphDue (now (s .entry)) st) ⌝ }
 {
     let at = st.at;
     let due = st.due;
@@ -361,14 +365,66 @@ fn glyph_goes_on(s: &[u8], st: Cursor, transform: Affine) -> bool
     if s[at] != 6 {
         return false;
     }
-    if 16384 <= st.glyphs {
-        return false;
-    }
-    if operand_checks::glyph_passes(s, at) {
-        let bounds = strip_format::rect_finite(s, at + 13);
-        return transform.finite_corners(bounds);
+    st.glyphs < 16384
+}
+
+// True only where such a glyph passes, by the run's affine.
+fn glyph_goes_on(s: &[u8], st: Cursor, transform: Affine) -> bool
+    ensures { λ r. ⌜ (r ≡ true → GoesOn (now (s .entry)) st transform) ⌝ }
+{
+    let at = st.at;
+    if glyph_due(s, st) {
+        if operand_checks::glyph_passes(s, at) {
+            let bounds = strip_format::rect_finite(s, at + 13);
+            return transform.finite_corners(bounds);
+        }
     }
     false
+}
+
+// True only where the floats of such a glyph are finite, and those of its box below 2^500.
+fn near_goes_on(s: &[u8], st: Cursor) -> bool
+    ensures { λ r. ⌜ (r ≡ true → NearGoesOn (now (s .entry)) st) ⌝ }
+{
+    let at = st.at;
+    if glyph_due(s, st) {
+        if little_endian::finite32_inside(s, at + 5) {
+            if little_endian::finite32_inside(s, at + 9) {
+                return strip_format::near_rect(s, at + 13);
+            }
+        }
+    }
+    false
+}
+
+// True only where a RUN stands at an offset whose affine's entries are below 2^500.
+fn near_run(s: &[u8], at: usize) -> bool
+    ensures { λ r. ⌜ (r ≡ true → NearRun (now (s .entry)) at) ⌝ }
+{
+    if command_bounds::kind_at(s, at) != 5 {
+        return false;
+    }
+    if strip_format::near_rect(s, at + 13) {
+        return strip_format::near_rect(s, at + 13 + 16);
+    }
+    false
+}
+
+// Past the glyphs at the cursor that only move it, as far as they and their run are as near: such an affine takes no corner of such a
+// box out of range, so that none is computed.
+fn pass_near(s: &[u8], st: Cursor) -> Cursor
+    ensures { λ r. ⌜ (r .run ≡ st .run) × Passes (now (s .entry)) st r ⌝ }
+{
+    let run = st.run;
+    let mut next = st;
+    if near_run(s, run) {
+        while near_goes_on(s, next) {
+            let at = next.at;
+            let bounds = strip_format::rect_finite(s, at + 13);
+            next = next.past_glyph(bounds);
+        }
+    }
+    next
 }
 
 // Past the glyphs at the cursor that only move it: as many steps at once, with the run's affine read once for all of them.
@@ -379,8 +435,12 @@ pub fn pass_glyphs(s: &[u8], st: Cursor) -> Cursor
     if st.due < 2 {
         return st;
     }
+    let near = pass_near(s, st);
+    if near.due < 2 {
+        return near;
+    }
     let transform = command_bounds::transform_at(s, run);
-    let mut next = st;
+    let mut next = near;
     while glyph_goes_on(s, next, transform) {
         let at = next.at;
         let bounds = strip_format::rect_finite(s, at + 13);

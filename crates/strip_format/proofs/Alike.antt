@@ -53,6 +53,16 @@ module _ (s r : List ℕ) (by n : ℕ) (same : (i j : ℕ) → j ≡ by + i → 
 
 -- in bytes that stand twice
 module _ (s : List ℕ) (p q n : ℕ) (w : SameBytes s p q n) where
+  pub rect-twice : 32 ≤ n → rectAt s p ≡ rectAt s q
+  rect-twice h =
+      sym (rect-same (part s p n) s p n (part-same s p n) 0 p (omega arith) (omega arith))
+      ∙ rect-same (part s p n) s q n (part-twice s p q n w) 0 q (omega arith) (omega arith)
+
+  pub affine-twice : 48 ≤ n → affineAt s p ≡ affineAt s q
+  affine-twice h =
+      sym (affine-same (part s p n) s p n (part-same s p n) 0 p (omega arith) (omega arith))
+      ∙ affine-same (part s p n) s q n (part-twice s p q n w) 0 q (omega arith) (omega arith)
+
   pub glyph-twice : 45 ≤ n → glyphAt s p ≡ glyphAt s q
   glyph-twice h =
       sym (glyph-same-at (part s p n) s p n (part-same s p n) 0 p (omega arith) (omega arith))

@@ -2,15 +2,16 @@
 // an offset, whatever the offset: past the end every byte counts as 0. What is compared later is decoded here again, so it
 // is what was read.
 ghost use mathlib.Core.Path.{_≡_};
-ghost use Prim.Native.Nat.{_+_, _≤_, _<_};
+ghost use Prim.Native.Nat.{_+_, _%_, _^_, _≤_, _<_};
+ghost use lib.Dec.{ltb};
 ghost use lib.ListN.{length};
 ghost use mathlib.Core.Bool.{true};
+ghost use Rattle.little_endian.specs.Words.{u64At};
 ghost use Rattle.strip_format.specs.Format as Format;
-ghost use Rattle.strip_format.specs.Finite.{FourFinite};
+ghost use Rattle.strip_format.specs.Finite.{FourFinite, nearBits, FourNear};
 use affine::Affine;
 use commands::Cap;
 use commands::DrawCommand;
-use commands::Glyph;
 use commands::Join;
 use commands::Stroke;
 use geometry::Rect;
@@ -82,6 +83,30 @@ fn finite_rect(s: &[u8], at: usize) -> bool
     false
 }
 
+// Whether the f64 at an offset is below 2^500 in size, by its exponent.
+fn near_at(s: &[u8], at: usize) -> bool
+    requires { ⌜ at + 8 ≤ length (now s) ⌝ }
+    ensures { λ r. ⌜ r ≡ ltb (u64At (now (s .entry)) at % 2 ^ 63) nearBits ⌝ }
+{
+    little_endian::u64_inside(s, at) % 0x8000_0000_0000_0000 < 0x5f30_0000_0000_0000
+}
+
+// True only where the four f64 from an offset on are below 2^500 in size. The product of two such is finite, and a sum of a few
+// products too: what an affine with such entries makes of such a box needs no test.
+pub fn near_rect(s: &[u8], at: usize) -> bool
+    requires { ⌜ at + 32 ≤ length (now s) ⌝ }
+    ensures { λ r. ⌜ (r ≡ true → FourNear (now (s .entry)) at) ⌝ }
+{
+    if near_at(s, at) {
+        if near_at(s, at + 8) {
+            if near_at(s, at + 16) {
+                return near_at(s, at + 24);
+            }
+        }
+    }
+    false
+}
+
 // A box whose bytes are all there and whose floats were found to be finite: none is tested again.
 pub fn rect_finite(s: &[u8], at: usize) -> Rect
     requires { ⌜ (at + 32 ≤ length (now s)) × FourFinite (now s) at ⌝ }
@@ -93,6 +118,17 @@ pub fn rect_finite(s: &[u8], at: usize) -> Rect
         x1: little_endian::f64_inside(s, at + 16),
         y1: little_endian::f64_inside(s, at + 24),
     }
+}
+
+// A box whose bytes are all there. Its floats are tested together, so that none is tested where it is used.
+pub fn rect_inside(s: &[u8], at: usize) -> Rect
+    requires { ⌜ at + 32 ≤ length (now s) ⌝ }
+    ensures { λ r. ⌜ r ≡ Format.rectAt (now (s .entry)) at ⌝ }
+{
+    if finite_rect(s, at) {
+        return rect_finite(s, at);
+    }
+    rect_at(s, at)
 }
 
 // An affine whose last bytes may be missing.
@@ -301,24 +337,5 @@ pub fn command_at(s: &[u8], at: usize) -> DrawCommand
         5 => run_at(s, at),
         7 => scene_at(s, at),
         _ => blank(),
-    }
-}
-
-pub fn glyph_at(s: &[u8], at: usize) -> Glyph
-    ensures { λ r. ⌜ r ≡ Format.glyphAt (now (s .entry)) at ⌝ }
-{
-    if s.len() <= at {
-        return Glyph {
-            id: 0,
-            x: 0.0,
-            y: 0.0,
-            bounds: rect_at(s, at),
-        };
-    }
-    Glyph {
-        id: little_endian::u32_at(s, at + 1) as u32,
-        x: little_endian::f32_at(s, at + 5),
-        y: little_endian::f32_at(s, at + 9),
-        bounds: rect_at(s, at + 13),
     }
 }
