@@ -5,20 +5,19 @@ use mathlib.Core.List.{List, [], _∷_, _++_}
 use Prim.Native.Nat.{ℕ, zero, suc, _+_, _-_, _≤_, _<_}
 use native.Mathlib.Omega.{arith}
 use lib.Dec.{eqb}
-use lib.Ieee.{Float}
-use borrow.Author.Tests.{ne-eqb}
+use lib.Ieee.{Float, eq}
+use borrow.Author.Tests.{eq-eqb, ne-eqb}
 use Rattle.lists.proofs.Picks.{pick-true, pick-false}
 use Rattle.little_endian.specs.Same.{SameBytes}
 use Rattle.geometry.specs.declared.Rect.{Rect}
-use Rattle.geometry.specs.Boxes.{union}
+use Rattle.geometry.specs.Boxes.{union, sameEdges}
 use Rattle.commands.specs.declared.Glyph.{Glyph}
 use Rattle.operand_equality.specs.Operands.{sameGlyph, equalGlyph, equalGlyphs}
 use Rattle.operand_equality.proofs.Selves.{glyph-self, equal-glyph-self}
 use Rattle.strip_format.specs.Format.{glyphAt, glyphsFrom}
 use Rattle.strip_format.proofs.Alike.{glyph-twice}
 use Rattle.strip_format.proofs.Numbers.{single-finite, rect-numbers}
-use Rattle.glyph_changes.specs.declared.Run.{Run}
-use Rattle.glyph_changes.specs.Runs.{windowed, boxesBy, changedAt, changedBy}
+use Rattle.glyph_changes.specs.Runs.{boxesBy, changedAt, changedBy}
 
 back : (n : ℕ) → suc n - 1 ≡ n
 back n = omega arith
@@ -98,12 +97,28 @@ module _ (s : List ℕ) where
   equal-stop p (suc i) q zero h k e = absurd (k refl)
   equal-stop p (suc i) q (suc j) h k e = rw e
 
--- ---- calls' answers for glyphs that were read, as tests and boxes of those in the strip
-pub windowed-by : (bs : List Float) (v : Run) {b : Rect} {g h : Glyph} → b ≡ windowed bs v g → g ≡ h → b ≡ windowed bs v h
-windowed-by bs v e p = e ∙ ap (windowed bs v) p
+-- ---- calls' answers for operands that were read, as tests and boxes of the glyphs in the strip
+module _ (g h : Glyph) {i j : ℕ} (p : i ≡ g .id) (q : j ≡ h .id) where
+  pub alike-by-number : (i ≡ j → ⊥) → false ≡ sameGlyph g h
+  unfolding sameGlyph
+  alike-by-number k = rw (sym p, sym q, ne-eqb i j k)
 
-pub told-by : (f : Glyph → Glyph → Bool) {r t : Bool} {g h a b : Glyph} → r ≡ f g h → g ≡ a → h ≡ b → r ≡ t → f a b ≡ t
-told-by f e p q v = sym (e ∙ (λ i. f (p i) (q i))) ∙ v
+  pub alike-by-x : i ≡ j → {x y : Float} → x ≡ g .x → y ≡ h .x → eq x y ≡ false → false ≡ sameGlyph g h
+  unfolding sameGlyph
+  alike-by-x same {x} {y} d e k = rw (sym p, sym q, eq-eqb i j same, sym d, sym e, k)
+
+  pub alike-by-y : i ≡ j → {x y : Float} → x ≡ g .x → y ≡ h .x → eq x y ≡ true → {v w : Float} → v ≡ g .y → w ≡ h .y → eq v w ≡ sameGlyph g h
+  unfolding sameGlyph
+  alike-by-y same {x} {y} d e k {v} {w} a b = rw (sym p, sym q, eq-eqb i j same, sym d, sym e, k, sym a, sym b)
+
+module _ (g h : Glyph) {t : Bool} (e : t ≡ sameGlyph g h) where
+  pub equal-by-painting : t ≡ false → false ≡ equalGlyph g h
+  unfolding equalGlyph
+  equal-by-painting k = rw (sym e, k)
+
+  pub equal-by-boxes : t ≡ true → {r : Bool} {b c : Rect} → b ≡ g .bounds → c ≡ h .bounds → r ≡ sameEdges b c → r ≡ equalGlyph g h
+  unfolding equalGlyph
+  equal-by-boxes k p q v = rw (sym e, k, sym p, sym q, v)
 
 pub united-by : {r a b c d : Rect} → r ≡ union a b → a ≡ c → b ≡ d → r ≡ union c d
 united-by e p q = e ∙ (λ i. union (p i) (q i))

@@ -1,14 +1,13 @@
-// Two runs of glyphs compared place by place: dew's `glyphs_eq` and `changed_glyph_bounds`. A glyph is decoded from
-// the strip where it is compared.
+// Two runs of glyphs compared place by place: dew's `glyphs_eq` and `changed_glyph_bounds`. Of a glyph only what is
+// compared or placed is read, from the strip where it stands.
 ghost use mathlib.Core.Path.{_≡_};
 ghost use Prim.Native.Nat.{_+_, _*_, _≤_, _<_};
 ghost use lib.ListN.{length};
-ghost use Rattle.operand_equality.specs.Operands.{equalGlyph, equalGlyphs};
+ghost use Rattle.operand_equality.specs.Operands.{sameGlyph, equalGlyph, equalGlyphs};
 ghost use Rattle.strip_format.specs.Format.{glyphAt, glyphsFrom};
 ghost use Rattle.rect_list.specs.Rects.{Added};
 ghost use Rattle.glyph_changes.specs.Runs.{glyphsOf, Inside, mostBoxes, windowed, boxesBy, changedAt, changedBy};
 use affine::Affine;
-use commands::Glyph;
 use geometry::Rect;
 
 // A run's glyphs: where the bytes of the first one begin, how many there are, and the transform and the clip
@@ -20,6 +19,20 @@ pub struct Run {
     pub clip: u64,
 }
 
+// Whether the glyphs at two offsets are painted alike, read where they stand. The number, in which most glyphs that
+// changed differ, comes first.
+fn glyph_eq(s: &[u8], p: usize, q: usize) -> bool
+    requires { ⌜ (p + 45 ≤ length (now s)) × (q + 45 ≤ length (now s)) ⌝ }
+    ensures { λ r. ⌜ r ≡ sameGlyph (glyphAt (now (s .entry)) p) (glyphAt (now (s .entry)) q) ⌝ }
+{
+    if little_endian::u32_inside(s, p + 1) == little_endian::u32_inside(s, q + 1) {
+        if little_endian::f32_at(s, p + 5) == little_endian::f32_at(s, q + 5) {
+            return little_endian::f32_at(s, p + 9) == little_endian::f32_at(s, q + 9);
+        }
+    }
+    false
+}
+
 // Whether the glyphs at two offsets are equal, with equal boxes. Most have the same bytes, and then none is decoded.
 fn equal_at(s: &[u8], p: usize, q: usize) -> bool
     requires { ⌜ (p + 45 ≤ length (now s)) × (q + 45 ≤ length (now s)) ⌝ }
@@ -28,9 +41,12 @@ fn equal_at(s: &[u8], p: usize, q: usize) -> bool
     if little_endian::same_bytes(s, p, q, 45) {
         return true;
     }
-    let g = strip_format::glyph_at(s, p);
-    let h = strip_format::glyph_at(s, q);
-    operand_equality::equal_glyph(g, h)
+    if glyph_eq(s, p, q) {
+        let b = strip_format::rect_inside(s, p + 13);
+        let c = strip_format::rect_inside(s, q + 13);
+        return b.same_edges(c);
+    }
+    false
 }
 
 // Whether two runs have equal glyphs, with equal boxes, and as many.
@@ -58,13 +74,14 @@ pub fn equal_glyphs(s: &[u8], old: Run, new: Run) -> bool
     j == 0
 }
 
-fn window_bounds(boxes: &[f64], run: Run, glyph: Glyph) -> Rect
-    requires { ⌜ 8 * run .clip ≤ length (now boxes) ⌝ }
-    ensures { λ r. ⌜ r ≡ windowed (now (boxes .entry)) run glyph ⌝ }
+// The box on the window of the glyph at an offset.
+fn window_at(s: &[u8], boxes: &[f64], run: Run, at: usize) -> Rect
+    requires { ⌜ (8 * run .clip ≤ length (now boxes)) × (at + 45 ≤ length (now s)) ⌝ }
+    ensures { λ r. ⌜ r ≡ windowed (now (boxes .entry)) run (glyphAt (now (s .entry)) at) ⌝ }
 {
     let number = run.clip;
     let transform = run.transform;
-    let bounds = glyph.bounds;
+    let bounds = strip_format::rect_inside(s, at + 13);
     display_list::window_glyph_bounds(boxes, number, transform, bounds)
 }
 
@@ -85,8 +102,7 @@ fn append_glyph_bounds(
     let mut p = at;
     let mut i = count;
     while 0 < i {
-        let g = strip_format::glyph_at(s, p);
-        let b = window_bounds(boxes, run, g);
+        let b = window_at(s, boxes, run, p);
         m = rect_list::append(rects, m, b);
         p += 45;
         i -= 1;
@@ -112,13 +128,11 @@ fn append_changed(
     if little_endian::same_bytes(s, at, other, 45) {
         return n;
     }
-    let g = strip_format::glyph_at(s, at);
-    let h = strip_format::glyph_at(s, other);
-    if operand_equality::glyph_eq(g, h) {
+    if glyph_eq(s, at, other) {
         return n;
     }
-    let b = window_bounds(boxes, old, g);
-    let c = window_bounds(boxes, new, h);
+    let b = window_at(s, boxes, old, at);
+    let c = window_at(s, boxes, new, other);
     rect_list::append(rects, n, b.union(c))
 }
 

@@ -4,7 +4,6 @@ ghost use mathlib.Core.Bool.{_&&_};
 ghost use Rattle.operand_equality.specs.Operands as Operands;
 use affine::Affine;
 use commands::Cap;
-use commands::Glyph;
 use commands::Join;
 use commands::Stroke;
 use geometry::Rect;
@@ -77,22 +76,6 @@ pub fn same_bits(a: f32, b: f32) -> bool
     } else {
         false
     }
-}
-
-// Whether two glyphs are painted alike; their boxes are not looked at.
-pub fn glyph_eq(a: Glyph, b: Glyph) -> bool
-    ensures { λ r. ⌜ r ≡ Operands.sameGlyph a b ⌝ }
-{
-    both(a.id == b.id, both(a.x == b.x, a.y == b.y))
-}
-
-// The same, and whether their boxes are equal too.
-pub fn equal_glyph(a: Glyph, b: Glyph) -> bool
-    ensures { λ r. ⌜ r ≡ Operands.equalGlyph a b ⌝ }
-{
-    let bounds = a.bounds;
-    let other = b.bounds;
-    both(glyph_eq(a, b), bounds.same_edges(other))
 }
 
 // The operands that a fill and a stroke share: `path` and its box are dew's path.

@@ -4,7 +4,7 @@ use native.Mathlib.Omega.{arith}
 use borrow.Author.Needs.{needs}
 use Rattle.rect_list.proofs.Turns.{Going, going-start, going-add, going-end, going-length}
 use Rattle.strip_format.specs.Format.{glyphsFrom}
-use Rattle.glyph_changes.proofs.Places.{boxes-end, boxes-next, windowed-by}
+use Rattle.glyph_changes.proofs.Places.{boxes-end, boxes-next}
 use Rattle.glyph_changes.specs.Runs.{Inside, windowed, boxesBy}
 use Rattle.glyph_changes.proofs.append_glyph_bounds.Statement.{statement}
 use Rattle.glyph_changes.proofs.append_glyph_bounds.Tie as tie
@@ -18,17 +18,14 @@ abbrev μ-loop : tie.MeasureT-loop
 loop-holds : tie.Need-loop-holds Inv-loop μ-loop
 loop-holds c = (c .before .before .before .pre .1, search needs, going-start)
 
-glyph-at-requires : tie.Need-glyph-at-requires Inv-loop μ-loop
-glyph-at-requires c κs = omega (arith, c .before .loop .inv .0 (c .loop-test .taken), c .loop-test .taken)
-
-window-bounds-requires : tie.Need-window-bounds-requires Inv-loop μ-loop
-window-bounds-requires c κs = c .before .before .before .before .before .before .pre .0
+window-at-requires : tie.Need-window-at-requires Inv-loop μ-loop
+window-at-requires c κs = (c .before .before .before .before .before .pre .0, omega (arith, c .before .loop .inv .0 (c .loop-test .taken), c .loop-test .taken))
 
 append-requires : tie.Need-append-requires Inv-loop μ-loop
-append-requires c κs = omega (arith, c .before .before .before .before .loop .inv .1, c .before .before .before .loop-test .taken, c .before .before .before .before .before .before .before .before .pre .2)
+append-requires c κs = omega (arith, c .before .before .before .loop .inv .1, c .before .before .loop-test .taken, c .before .before .before .before .before .before .before .pre .2)
 
 add-p : tie.Need-add-p Inv-loop μ-loop
-add-p c = omega (arith, c .before .before .before .before .before .before .before .loop .inv .0 (c .before .before .before .before .before .before .loop-test .taken), c .before .before .before .before .before .before .loop-test .taken)
+add-p c = omega (arith, c .before .before .before .before .before .before .loop .inv .0 (c .before .before .before .before .before .loop-test .taken), c .before .before .before .before .before .loop-test .taken)
 
 sub-i : tie.Need-sub-i Inv-loop μ-loop
 sub-i c = omega arith
@@ -37,7 +34,7 @@ loop-less : tie.Need-loop-less Inv-loop μ-loop
 loop-less c = omega arith
 
 loop-again : tie.Need-loop-again Inv-loop μ-loop
-loop-again c = (λ h. omega (arith, c .before .before .before .before .before .before .before .loop .inv .0 (c .before .before .before .before .before .before .loop-test .taken), c .before .before .before .before .before .before .loop-test .taken), omega (arith, c .before .before .append .ensures .most, c .before .before .before .before .before .before .before .loop .inv .1, c .before .before .before .before .before .before .loop-test .taken), going-add (c .before .before .before .before .before .before .before .loop .inv .2) (boxes-next _ _ _ _ _ (c .before .before .before .before .before .before .loop-test .taken) (windowed-by _ _ (c .before .before .before .before .window-bounds .ensures) (c .before .before .before .before .before .glyph-at .ensures))) (c .before .before .append .ensures))
+loop-again c = (λ h. omega (arith, c .before .before .before .before .before .before .loop .inv .0 (c .before .before .before .before .before .loop-test .taken), c .before .before .before .before .before .loop-test .taken), omega (arith, c .before .before .append .ensures .most, c .before .before .before .before .before .before .loop .inv .1, c .before .before .before .before .before .loop-test .taken), going-add (c .before .before .before .before .before .before .loop .inv .2) (boxes-next _ _ _ _ _ (c .before .before .before .before .before .loop-test .taken) (c .before .before .before .before .window-at .ensures)) (c .before .before .append .ensures))
 
 same-length : tie.Need-same-length Inv-loop μ-loop
 same-length c = going-length (c .before .loop .inv .2)
@@ -52,8 +49,7 @@ append-glyph-bounds-spec =
     Inv-loop
     μ-loop
     loop-holds
-    glyph-at-requires
-    window-bounds-requires
+    window-at-requires
     append-requires
     add-p
     sub-i
