@@ -1,6 +1,6 @@
 -- Commands of a list in lent space, decoded to be compared.
 use mathlib.Core.Path.{_≡_}
-use mathlib.Core.Bool.{true}
+use mathlib.Core.Bool.{Bool, true, false}
 use mathlib.Core.List.{List, [], _∷_}
 use Prim.Native.Nat.{ℕ, zero, suc, _+_, _*_, _≤_, _<_}
 use lib.Dec.{eqb}
@@ -13,7 +13,9 @@ use Rattle.commands.specs.Bounds.{Command, transformOf, glyphCount, bounds}
 use Rattle.operand_equality.specs.Operands.{sameClips}
 use Rattle.clips.specs.Chains.{chain, Clips}
 use Rattle.display_list.specs.Lists.{offsetAt, clipNumberAt, boxAt}
+use Rattle.equality.specs.Drawings.{sameDrawing}
 use Rattle.strip_format.specs.Format.{lengthOf, commandAt}
+use Rattle.command_bounds.specs.Kinds.{kindAt}
 use Rattle.stored_lists.specs.Stored.{Stored}
 use Rattle.glyph_changes.specs.declared.Run.{Run}
 use Rattle.glyph_changes.specs.Runs.{glyphsOf, Inside}
@@ -63,6 +65,22 @@ pub record Pair (s : List ℕ) (bs : List Float) (ns : List ℕ) (a b : PlacedCo
 -- the clips up to two numbers are the same
 abbrev pub AlikeClips : List Float → List ℕ → ℕ → ℕ → Type 0
 AlikeClips bs ns x y = sameClips (chain bs ns x) (chain bs ns y) ≡ true
+
+-- the first is no RUN, and the two differ in an operand
+unfoldable pub apart : List ℕ → ℕ → ℕ → Bool
+apart s p q = pick (eqb (getD s p 0) 5) false (pick (sameDrawing (commandAt s p) (commandAt s q)) false true)
+
+-- a RUN stands whole at p, and at q another with the same operands and as many glyphs
+abbrev pub SameRun : List ℕ → ℕ → ℕ → Type 0
+SameRun s p q = (kindAt s p ≡ 5) × (kindAt s q ≡ 5) × (commandAt s p ≡ commandAt s q)
+
+-- such a RUN at two places of a list, with clip numbers and glyphs that the space holds
+pub record RunPair (s : List ℕ) (bs : List Float) (is : List ℕ) (i j : ℕ) : Type 0 where
+  pub same : SameRun s (offsetAt is i) (offsetAt is j)
+  pub items : (2 * i + 2 ≤ length is) × (2 * j + 2 ≤ length is)
+  pub clips : (8 * clipNumberAt is i ≤ length bs) × (8 * clipNumberAt is j ≤ length bs)
+  pub glyphs : Inside s (runAt s is i .glyphs) (runAt s is i .count)
+  pub other : Inside s (runAt s is j .glyphs) (runAt s is j .count)
 
 -- ---- the boxes of n commands from place i on
 unfoldable pub boxesIn : List Float → ℕ → ℕ → List Rect

@@ -2,21 +2,23 @@
 // what changed are appended to a list of their own; nothing else is stored.
 ghost use mathlib.Core.Path.{_≡_};
 ghost use mathlib.Core.Bool.{true, _&&_};
-ghost use mathlib.Core.List.{[]};
+ghost use mathlib.Core.List.{[], _∷_};
 ghost use Prim.Native.Nat.{_+_, _*_, _≤_, _<_};
 ghost use lib.ListN.{length};
+ghost use Rattle.geometry.specs.Boxes.{union};
 ghost use Rattle.commands.specs.Bounds.{glyphCount};
 ghost use Rattle.operand_equality.specs.Operands.{sameClips};
 ghost use Rattle.clips.specs.Chains.{chain, Rooted};
 ghost use Rattle.equality.specs.Drawings as Drawings;
 ghost use Rattle.differences.specs.Differences.{rectSymmetricDifference};
-ghost use Rattle.display_list.specs.Lists.{offsetAt, clipNumberAt};
+ghost use Rattle.display_list.specs.Lists.{offsetAt, clipNumberAt, boxAt};
 ghost use Rattle.strip.specs.Reading.{commandOf};
 ghost use Rattle.changes.specs.Changes.{changedBounds, diffDirty};
 ghost use Rattle.stored_lists.specs.Stored.{Stored, commandIn, commandsIn};
 ghost use Rattle.rect_list.specs.Rects.{Added, Listed};
-ghost use Rattle.glyph_changes.specs.Runs.{mostBoxes};
-ghost use Rattle.runtime.specs.Placed.{Both, placedAt, standsFor, Standing, wholeLength, Pair, AlikeClips, boxesIn};
+ghost use Rattle.glyph_changes.specs.Runs.{mostBoxes, windowed, changedBy, glyphsOf};
+ghost use Rattle.runtime.specs.Placed as Placed;
+ghost use Rattle.runtime.specs.Placed.{Both, placedAt, standsFor, Standing, wholeLength, Pair, AlikeClips, SameRun, RunPair, boxesIn};
 ghost use Rattle.runtime.specs.Work.{workOf};
 use commands::DrawCommand;
 use geometry::Rect;
@@ -164,8 +166,8 @@ fn changed_placed(
     rect_list::append(rects, n, bounds.union(other_bounds))
 }
 
-// Appends the boxes of what changed from the command at place i to the one at place j.
-pub fn changed_bounds(
+// The same once both are decoded, whatever they are.
+fn changed_decoded(
     s: &[u8],
     boxes: &[f64],
     below: &[u64],
@@ -182,6 +184,108 @@ pub fn changed_bounds(
     let old = placed_at(s, items, item_boxes, i);
     let new = placed_at(s, items, item_boxes, j);
     changed_placed(s, boxes, below, old, new, rects, n)
+}
+
+// Whether two commands differ in an operand, and the first is no RUN: then what changed is the union of their boxes, and neither need be
+// decoded. RUNs may be alike though their boxes differ.
+fn apart(s: &[u8], at: usize, other: usize) -> bool
+    ensures { λ r. ⌜ r ≡ Placed.apart (now (s .entry)) at other ⌝ }
+{
+    if little_endian::byte_at(s, at) == 5 {
+        return false;
+    }
+    if strip_equality::same_drawing_at(s, at, other) {
+        return false;
+    }
+    true
+}
+
+// Appends the union of the boxes at two places.
+fn append_union(item_boxes: &[f64], i: usize, j: usize, rects: &mut [f64], n: usize) -> usize
+    requires { ⌜ (4 * i + 4 ≤ length (now «item_boxes»)) × (4 * j + 4 ≤ length (now «item_boxes»)) × (n < 9223372036854775808) ⌝ }
+    ensures { λ r. ⌜ Added 1 (now (rects .entry)) n (union (boxAt (now («item_boxes» .entry)) i) (boxAt (now («item_boxes» .entry)) j) ∷ []) (now (rects .exit)) r ⌝ }
+{
+    let old = rect_words::rect_at(item_boxes, 4 * i);
+    let new = rect_words::rect_at(item_boxes, 4 * j);
+    rect_list::append(rects, n, old.union(new))
+}
+
+// True only where the same RUN stands at both offsets, but for its glyphs: its bytes are the same.
+fn same_run(s: &[u8], at: usize, other: usize) -> bool
+    ensures { λ r. ⌜ (r ≡ true → SameRun (now (s .entry)) at other) ⌝ }
+{
+    if command_bounds::kind_at(s, at) != 5 {
+        return false;
+    }
+    if command_bounds::kind_at(s, other) != 5 {
+        return false;
+    }
+    little_endian::same_bytes(s, at, other, 103)
+}
+
+// Appends the boxes of what changed in the glyphs of a RUN that stands at both places: its operands are read once.
+fn changed_run(
+    s: &[u8],
+    boxes: &[f64],
+    items: &[u64],
+    i: usize,
+    j: usize,
+    rects: &mut [f64],
+    n: usize,
+) -> usize
+    requires { ⌜ RunPair (now s) (now boxes) (now items) i j × (n + mostBoxes < 9223372036854775808) ⌝ }
+    ensures { λ r. ⌜ Added mostBoxes (now (rects .entry)) n (changedBy (windowed (now (boxes .entry)) (Placed.runAt (now (s .entry)) (now (items .entry)) i)) (windowed (now (boxes .entry)) (Placed.runAt (now (s .entry)) (now (items .entry)) j)) (glyphsOf (now (s .entry)) (Placed.runAt (now (s .entry)) (now (items .entry)) i)) (glyphsOf (now (s .entry)) (Placed.runAt (now (s .entry)) (now (items .entry)) j))) (now (rects .exit)) r ⌝ }
+{
+    let at = items[2 * i] as usize;
+    let clip = items[2 * i + 1];
+    let other = items[2 * j] as usize;
+    let other_clip = items[2 * j + 1];
+    let transform = command_bounds::transform_at(s, at);
+    let count = little_endian::u16_at(s, at + 101) as u32;
+    let run = Run {
+        glyphs: at + 103,
+        count,
+        transform,
+        clip,
+    };
+    let other_run = Run {
+        glyphs: other + 103,
+        count,
+        transform,
+        clip: other_clip,
+    };
+    glyph_changes::changed_glyph_bounds(s, boxes, run, other_run, rects, n)
+}
+
+// Appends the boxes of what changed from the command at place i to the one at place j. Most that changed differ in an operand or
+// are RUNs of which only glyphs changed: those are told where they stand, and the others decoded.
+pub fn changed_bounds(
+    s: &[u8],
+    boxes: &[f64],
+    below: &[u64],
+    items: &[u64],
+    item_boxes: &[f64],
+    i: usize,
+    j: usize,
+    rects: &mut [f64],
+    n: usize,
+) -> usize
+    requires { ⌜ Both i j (now s) (now boxes) (now below) (now items) (now «item_boxes») × (n + mostBoxes < 9223372036854775808) ⌝ }
+    ensures { λ r. ⌜ Added mostBoxes (now (rects .entry)) n (changedBounds (commandIn (now (s .entry)) (now (boxes .entry)) (now (below .entry)) (now (items .entry)) i) (commandIn (now (s .entry)) (now (boxes .entry)) (now (below .entry)) (now (items .entry)) j)) (now (rects .exit)) r ⌝ }
+{
+    let at = items[2 * i] as usize;
+    let other = items[2 * j] as usize;
+    if apart(s, at, other) {
+        return append_union(item_boxes, i, j, rects, n);
+    }
+    if same_run(s, at, other) {
+        let clip = items[2 * i + 1];
+        let other_clip = items[2 * j + 1];
+        if clips::same_clips(boxes, below, clip, other_clip) {
+            return changed_run(s, boxes, items, i, j, rects, n);
+        }
+    }
+    changed_decoded(s, boxes, below, items, item_boxes, i, j, rects, n)
 }
 
 // Appends the boxes of the commands from a place on.
