@@ -1,5 +1,5 @@
--- Products and sums of numbers that are not too large are finite: what an operation rounds to is less than four times its exact result, so a few operations
--- on numbers below 2 ^ 500 stay far below 2 ^ 1024. Assumes nothing.
+-- Products and sums of numbers that are not too large are finite: what is at most 2 ^ k rounds to at most four times that, so a few operations on numbers
+-- below 2 ^ 500 stay far below 2 ^ 1024. Assumes nothing.
 use mathlib.Core.Path.{_≡_, refl, sym, ap, _∙_, subst}
 use mathlib.Core.Bool.{Bool, true, false, not, _&&_, Bool·beq, cond, true≢false}
 use Prim.Native.Nat.{ℕ, zero, suc, _+_, _-_, _*_, _/_, _%_, _^_, _≤_, _<_, compare}

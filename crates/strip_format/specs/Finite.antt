@@ -14,11 +14,11 @@ pub record FourFinite (s : List ℕ) (at : ℕ) : Type 0 where
   pub third : finite (ofBits binary64 (u64At s (at + 16))) ≡ true
   pub fourth : finite (ofBits binary64 (u64At s (at + 24))) ≡ true
 
--- the pattern of 2 ^ 500; below it, the sign apart, are the patterns of lesser numbers
+-- the pattern of 2 ^ 500: patterns below it, the sign apart, are those of numbers below 2 ^ 500 in size (`ieee`, `bits-within`)
 abbrev pub nearBits : ℕ
 nearBits = 1523 * 2 ^ 52
 
--- the four f64 from an offset on are lesser
+-- the four f64 from an offset on are below 2 ^ 500 in size
 pub record FourNear (s : List ℕ) (at : ℕ) : Type 0 where
   pub first : u64At s at % 2 ^ 63 < nearBits
   pub second : u64At s (at + 8) % 2 ^ 63 < nearBits
