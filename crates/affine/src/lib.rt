@@ -1,5 +1,7 @@
 // Affine maps of boxes over f64: kurbo's, with document 01's meanings. Every function has an answer for
 // every f64.
+#![tactic(auto)]
+
 ghost use Rattle.std.specs.Prelude.{◌≡◌};
 ghost use Rattle.affine.specs.Affines as Affines;
 

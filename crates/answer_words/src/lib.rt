@@ -1,4 +1,6 @@
 // An answer as words, for callers in other languages: as many of them as the caller has lent room for.
+#![tactic(auto)]
+
 ghost use Rattle.std.specs.Prelude.{◌≡◌};
 ghost use Rattle.candidates.specs.Table as Table;
 ghost use Rattle.plans.specs.Answers as Answers;

@@ -1,5 +1,7 @@
 // A box told from a band by its edges as they are: most boxes have no row of most bands, and to convert them only to find
 // that out costs more than two comparisons.
+#![tactic(auto)]
+
 ghost use Rattle.std.specs.Prelude.{◌≡◌, ◌≤◌};
 ghost use Rattle.device.specs.Region as Region;
 ghost use Rattle.band_misses.specs.Misses.{Misses};

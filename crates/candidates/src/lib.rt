@@ -1,5 +1,7 @@
 // dew's BandIndex::candidates: the commands that may touch a region's band row, out of the index words.
 // There is an answer for any numbers and any words.
+#![tactic(auto)]
+
 ghost use Rattle.std.specs.Prelude.{◌≡◌, ◌≤◌};
 ghost use Rattle.candidates.specs.Table as Table;
 

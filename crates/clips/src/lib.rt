@@ -1,5 +1,7 @@
 // Numbered clips in lent space, dew's `Arc<[ClipRegion]>`: a clip is its own box, the box of all clips up to
 // it, and the number of the one below. Numbers count from 1; 0 is none.
+#![tactic(auto)]
+
 ghost use Rattle.std.specs.Prelude.{◌≡◌, ◌*◌, ◌≤◌, ◌<◌, length, set};
 ghost use Rattle.operand_equality.specs.Operands.{same_clips};
 ghost use Rattle.clips.specs.Chains as Chains;

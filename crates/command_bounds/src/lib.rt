@@ -1,5 +1,7 @@
 // The affine of the drawing command at an offset, read where it stands: the command itself is not built. It equals what the
 // command of `strip_format::command_at` answers.
+#![tactic(auto)]
+
 ghost use Rattle.std.specs.Prelude.{◌≡◌};
 ghost use Rattle.commands.specs.Bounds as Bounds;
 ghost use Rattle.strip_format.specs.Format.{command_at};

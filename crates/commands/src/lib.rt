@@ -1,5 +1,7 @@
 // Dew's draw commands and the boxes that they cover: display_list.rs with document 01's operands. Every
 // function has an answer for every f64.
+#![tactic(auto)]
+
 ghost use Rattle.std.specs.Prelude.{◌≡◌};
 ghost use Rattle.commands.specs.Strokes as Strokes;
 ghost use Rattle.commands.specs.Bounds as Bounds;

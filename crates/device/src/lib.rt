@@ -1,5 +1,7 @@
 // Regions in whole device pixels, as dew's compositor has them: the conversion of a box to one, what two have in
 // common, the least region over two, and the pixels of one.
+#![tactic(auto)]
+
 ghost use Rattle.std.specs.Prelude.{◌≡◌, min, max};
 ghost use Rattle.device.specs.Region as Region;
 

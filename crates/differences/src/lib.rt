@@ -1,4 +1,6 @@
 // Dew's `rect_difference`: what one box leaves of another, as at most four boxes.
+#![tactic(auto)]
+
 ghost use Rattle.std.specs.Prelude.{◌≡◌};
 ghost use Rattle.differences.specs.Differences as Differences;
 

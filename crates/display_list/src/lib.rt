@@ -1,5 +1,7 @@
 // Dew's `DisplayList` as a state by value over lent space: what is pushed is stored where there is room and
 // counted everywhere, and each step hands the state back.
+#![tactic(auto)]
+
 ghost use Rattle.std.specs.Prelude.{◌≡◌, ◌*◌, ◌≤◌, ◌<◌, length};
 ghost use Rattle.display_list.specs.Lists as Lists;
 

@@ -1,4 +1,6 @@
 // A draft in scratch: once its rectangles stand there, their regions and the index of the new strip's commands.
+#![tactic(auto)]
+
 ghost use Rattle.std.specs.Prelude.{◌≡◌, ◌+◌, ◌*◌, ◌≤◌, length, drop};
 ghost use Rattle.index_words.specs.Sizes.{Size};
 ghost use Rattle.band_index.specs.Answer.{index_of, stored};

@@ -1,4 +1,6 @@
 // Runs document 01's edges through the code that there is, and prints what it answers, a line each.
+#![tactic(auto)]
+
 use device::{Converted, DeviceRegion};
 use geometry::Rect;
 use libc::STDOUT_FILENO;

@@ -1,4 +1,6 @@
 // Calls of the planner's two entries: the entry that a call's first byte names, and how much of an array it is lent.
+#![tactic(auto)]
+
 ghost use Rattle.std.specs.Prelude.{◌≤◌};
 
 use plans::Plan;

@@ -1,5 +1,7 @@
 // Draw commands compared as dew's `DrawCommand::eq` and `changed_bounds` do. Clips and lists of glyphs are
 // compared apart.
+#![tactic(auto)]
+
 ghost use Rattle.std.specs.Prelude.{◌≡◌};
 ghost use Rattle.equality.specs.Drawings as Drawings;
 

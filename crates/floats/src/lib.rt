@@ -1,6 +1,8 @@
 // Single numbers of f64: the larger and the smaller of two, whole numbers below and above, the next
 // lower value. Every function has an answer for every f64, a NaN and the infinities too, so that no
 // caller has to carry along that its numbers are finite.
+#![tactic(auto)]
+
 ghost use Rattle.std.specs.Prelude.{◌≡◌, ◌-◌, ◌^◌, min};
 ghost use Rattle.std.specs.Float.Ieee.Scale.{finite};
 ghost use Rattle.floats.specs.Order as Order;

@@ -1,5 +1,7 @@
 // A whole input: its header, and the strips behind it, with the number and position of the first refusal. Any bytes will
 // do, an empty input too.
+#![tactic(auto)]
+
 ghost use Rattle.std.specs.Prelude.{◌≡◌, ◌≤◌, length};
 ghost use Rattle.frame.specs.Frame as Frame;
 ghost use Rattle.strip.specs.Reading.{read_strip};

@@ -1,5 +1,7 @@
 // A whole input drafted in scratch: header and strips are read, the items they take are judged, and what changed, its regions and
 // its index are worked out.
+#![tactic(auto)]
+
 ghost use Rattle.std.specs.Prelude.{◌≡◌, min};
 ghost use Rattle.frame.specs.Frame.{first_of, both_of};
 ghost use Rattle.scheduler.specs.Schedule.{Sizes};

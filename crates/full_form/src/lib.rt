@@ -1,5 +1,7 @@
 // Answers in the oracle's full form: everything that a call says, an edge as its bits. A plan is not taken at its word
 // here: what it counts past the words given is left out, so that a wrong count shows as a difference of the text.
+#![tactic(auto)]
+
 ghost use Rattle.std.specs.Prelude.{◌+◌, ◌*◌, ◌≤◌, length};
 
 use frame::{First, Header, Pair};

@@ -1,5 +1,7 @@
 // Boxes over f64 and the pixels that they touch: kurbo's rectangles with document 01's meanings. Every
 // function has an answer for every f64.
+#![tactic(auto)]
+
 ghost use Rattle.std.specs.Prelude.{◌≡◌};
 ghost use Rattle.geometry.specs.Boxes as Boxes;
 ghost use Rattle.geometry.specs.Pixels as Pixels;

@@ -1,5 +1,7 @@
 // Two runs of glyphs compared place by place: dew's `glyphs_eq` and `changed_glyph_bounds`. Of a glyph only what is
 // compared or placed is read, from the strip where it stands.
+#![tactic(auto)]
+
 ghost use Rattle.std.specs.Prelude.{◌≡◌, ◌+◌, ◌*◌, ◌≤◌, ◌<◌, length};
 ghost use Rattle.operand_equality.specs.Operands.{same_glyph, equal_glyph, equal_glyphs};
 ghost use Rattle.strip_format.specs.Format.{glyph_at, glyphs_from};

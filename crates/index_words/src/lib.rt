@@ -1,1 +1,3 @@
 // The words of dew's BandIndex by definition, and their laws. There is no code here.
+
+#![tactic(auto)]

@@ -1,5 +1,7 @@
 // Clearing and copying of slices. Where a function is there for several types of element, its name ends in
 // the type, and its contract is the same for each.
+#![tactic(auto)]
+
 mod f64s;
 mod u32s;
 mod u64s;

@@ -1,6 +1,8 @@
 // Little-endian numbers at an offset of a slice of bytes. Any offset will do: past the end a byte counts as 0. A float that is
 // infinite or a NaN reads as 0, so that no caller has to know that it is finite before it is read. The functions whose names end in
 // `_inside`, and `same_bytes`, are for callers that have tested the length: they ask for it, and test nothing.
+#![tactic(auto)]
+
 ghost use Rattle.std.specs.Prelude.{◌≡◌, true, ◌+◌, ◌-◌, ◌≤◌, ◌<◌, ◌^◌, length, get_or};
 ghost use Rattle.std.specs.Float.{binary32, binary64};
 ghost use Rattle.std.specs.Float.Ieee.{of_bits};

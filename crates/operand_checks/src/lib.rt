@@ -1,5 +1,7 @@
 // Whether the operands of a command pass: codes first, then every float, used or not. Any offset will do; past the end every
 // byte counts as 0.
+#![tactic(auto)]
+
 ghost use Rattle.std.specs.Prelude.{◌≡◌, ◌+◌, ◌*◌, ◌≤◌, ◌<◌, ◌^◌, length};
 ghost use Rattle.lists.specs.Pick.{pick};
 ghost use Rattle.operand_checks.specs.Operands as Operands;

@@ -1,4 +1,6 @@
 // Operands of draw commands compared as dew's `DrawCommand::eq` does: numbers as they are, floats by value.
+#![tactic(auto)]
+
 ghost use Rattle.std.specs.Prelude.{◌≡◌, ◌&&◌};
 ghost use Rattle.operand_equality.specs.Operands as Operands;
 

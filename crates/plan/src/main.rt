@@ -1,5 +1,7 @@
 // The plan program: reads a header and two strips from standard input, and prints what has to be drawn anew, or why the
 // input is turned away.
+#![tactic(auto)]
+
 ghost use Rattle.std.specs.Prelude.{◌*◌, ◌≤◌, length};
 
 use frame::Header;

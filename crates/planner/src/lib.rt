@@ -1,5 +1,7 @@
 // The planner's two entries: a plan of the first frame, and a plan of what changed since the last one. Everything is worked out
 // in scratch, published only where the whole plan fits, and the scratch is cleared.
+#![tactic(auto)]
+
 ghost use Rattle.std.specs.Prelude.{◌≡◌, ◌++◌, ◌/◌, min, length, take, drop};
 ghost use Rattle.plans.specs.Drafts.{first_outcome, next_outcome};
 ghost use Rattle.plans.specs.Space.{lent_of};

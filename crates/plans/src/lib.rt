@@ -1,4 +1,6 @@
 // What a call of the planner answers. Its meaning, from bytes and lent space alone, is in specs/.
+#![tactic(auto)]
+
 use runtime::FrameWork;
 
 // Planned, with the number of rectangles, the number of index words, and dew's counters of the frame; or refused, with the

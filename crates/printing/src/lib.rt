@@ -1,5 +1,7 @@
 // Text for standard output, gathered in a lent array and written a page at a time. A place in the array is passed in and
 // handed back moved on; any place will do, so that no caller has to know how much fits.
+#![tactic(auto)]
+
 use libc::{STDERR_FILENO, STDOUT_FILENO};
 
 // Writes out some text. A program has no exit status to tell a failure by, so it is told in words.

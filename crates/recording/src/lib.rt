@@ -1,5 +1,7 @@
 // Strips read into lent space: dew's display lists, built while their bytes are checked. What does not fit is counted
 // on, so that every refusal of the strips is found before space is judged.
+#![tactic(auto)]
+
 ghost use Rattle.std.specs.Prelude.{◌≡◌, ◌≤◌};
 ghost use Rattle.frame.specs.Frame as Frame;
 ghost use Rattle.strip.specs.Reading.{read_strip};

@@ -1,5 +1,7 @@
 // A list of boxes in lent space: four words a box, stored where there is room and always counted, so that a
 // list that did not fit says how much room it wants.
+#![tactic(auto)]
+
 ghost use Rattle.std.specs.Prelude.{[], ◌∷◌, ◌+◌, ◌<◌};
 ghost use Rattle.differences.specs.Differences.{boxes_of, list_of};
 ghost use Rattle.rect_list.specs.Rects.{Added};

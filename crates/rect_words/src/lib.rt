@@ -1,4 +1,6 @@
 // Boxes in lent space: four words a box, its edges in the order x0, y0, x1, y1.
+#![tactic(auto)]
+
 ghost use Rattle.std.specs.Prelude.{◌≡◌, ◌+◌, ◌≤◌, length};
 ghost use Rattle.rect_words.specs.Words as Words;
 

@@ -1,6 +1,8 @@
 // Answers a batch of calls in the oracle's framing, so that the entries and `candidates` can be held to stored answers. A
 // call stands behind its length; its first byte says which function is called, and a frame's next six words how much space
 // is lent. Each answer is followed by a line with a single dot.
+#![tactic(auto)]
+
 ghost use Rattle.std.specs.Prelude.{◌+◌, ◌≤◌, ◌<◌, length};
 
 use entry_calls::FIRST;

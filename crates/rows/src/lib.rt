@@ -1,4 +1,6 @@
 // Band rows: the exact row of a height. Every function has an answer for every f64 and every size.
+#![tactic(auto)]
+
 ghost use Rattle.std.specs.Prelude.{◌≡◌};
 ghost use Rattle.rows.specs.Rows as Rows;
 

@@ -1,5 +1,7 @@
 // Dew's frame comparison, `changed_bounds` and `diff_dirty`, over two display lists in one lent space. Boxes of
 // what changed are appended to a list of their own; nothing else is stored.
+#![tactic(auto)]
+
 ghost use Rattle.std.specs.Prelude.{◌≡◌, true, ◌&&◌, [], ◌∷◌, ◌+◌, ◌*◌, ◌≤◌, ◌<◌, length};
 ghost use Rattle.geometry.specs.Boxes.{union};
 ghost use Rattle.commands.specs.Bounds.{glyph_count};

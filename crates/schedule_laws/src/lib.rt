@@ -1,1 +1,3 @@
 // No code: the laws of a schedule, in proofs/.
+
+#![tactic(auto)]

@@ -1,5 +1,7 @@
 // dew's band scheduler: the regions of a screen that dirty boxes change, band by band from the top, in space that the caller
 // lends.
+#![tactic(auto)]
+
 ghost use Rattle.std.specs.Prelude.{◌≡◌, map, ◌++◌, ◌≤◌, ◌<◌, ◌*◌, ◌+◌, length, take, drop};
 ghost use Rattle.bands.specs.Bands as Bands;
 ghost use Rattle.bands.specs.Keys as Keys;

@@ -1,6 +1,8 @@
 // The planner for C and Rust: the two entries of `planner` and `candidates`, exported under C's names. A slice passes as a
 // pointer and a length; an answer is document 01's number, with the rest of it as words in lent space.
 // bindings/c/sovdringa.h declares these functions for C.
+#![tactic(auto)]
+
 ghost use Rattle.std.specs.Prelude.{◌≡◌};
 ghost use Rattle.plans.specs.Drafts.{first_outcome, next_outcome};
 ghost use Rattle.plans.specs.Answers as Answers;

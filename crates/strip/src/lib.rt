@@ -1,4 +1,6 @@
 // Reads a strip: a cursor by value, a step for each command, and the number and position of the first refusal.
+#![tactic(auto)]
+
 ghost use Rattle.std.specs.Prelude.{◌≡◌, true, ◌+◌, ◌≤◌, ◌<◌, ◌^◌, length};
 ghost use Rattle.commands.specs.Bounds.{transform_of};
 ghost use Rattle.strip_format.specs.Format.{length_of, command_at};

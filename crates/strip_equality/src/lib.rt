@@ -1,5 +1,7 @@
 // Drawing commands of a strip compared where they stand, as `equality::same_drawing` compares them once they are decoded. No
 // command is built for it, and a float that has the bits of the other is not decoded either.
+#![tactic(auto)]
+
 ghost use Rattle.std.specs.Prelude.{◌≡◌, ◌+◌, ◌≤◌, length};
 ghost use Rattle.std.specs.Float.Ieee.{eq};
 ghost use Rattle.little_endian.specs.Words.{f64_at};

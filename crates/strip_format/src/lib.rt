@@ -1,6 +1,8 @@
 // The strip's bytes: how long each command is, and the drawing command or glyph that stands at
 // an offset, whatever the offset: past the end every byte counts as 0. What is compared later is decoded here again, so it
 // is what was read.
+#![tactic(auto)]
+
 ghost use Rattle.std.specs.Prelude.{◌≡◌, ◌+◌, ◌%◌, ◌^◌, ◌≤◌, ◌<◌, ltb, length, true};
 ghost use Rattle.little_endian.specs.Words.{u64_at};
 ghost use Rattle.strip_format.specs.Format as Format;

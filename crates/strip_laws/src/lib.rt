@@ -1,1 +1,3 @@
 // No code: the laws of reading a strip, in proofs/.
+
+#![tactic(auto)]
