@@ -7,14 +7,14 @@ ghost use Rattle.affine.specs.Affines as Affines;
 
 use geometry::Rect;
 
-#[derive(Drop)]
+#[derive(Clone, Copy)]
 pub struct Point {
     pub x: f64,
     pub y: f64,
 }
 
 // The affine map of (x, y) to (a x + c y + e, b x + d y + f).
-#[derive(Drop)]
+#[derive(Clone, Copy)]
 pub struct Affine {
     pub a: f64,
     pub b: f64,
@@ -25,7 +25,7 @@ pub struct Affine {
 }
 
 // A transformed box, or word that one of its corners is infinite or a NaN.
-#[derive(Drop)]
+#[derive(Clone, Copy)]
 pub enum Transformed {
     Finite(Rect),
     NotFinite,

@@ -7,7 +7,7 @@ ghost use Rattle.candidates.specs.Table as Table;
 
 // The part of the words that has a row's entries, from the first number up to the second; or
 // document 01's number for why there is none.
-#[derive(Drop)]
+#[derive(Clone, Copy)]
 pub enum Lookup {
     Part(usize, usize),
     Refused(u32),

@@ -9,14 +9,14 @@ ghost use Rattle.commands.specs.Bounds as Bounds;
 use affine::{Affine, Transformed};
 use geometry::Rect;
 
-#[derive(Drop)]
+#[derive(Clone, Copy)]
 pub enum Join {
     Bevel,
     Miter,
     Round,
 }
 
-#[derive(Drop)]
+#[derive(Clone, Copy)]
 pub enum Cap {
     Butt,
     Square,
@@ -24,7 +24,7 @@ pub enum Cap {
 }
 
 // How a path is stroked; `dash` numbers a dash pattern with its offset.
-#[derive(Drop)]
+#[derive(Clone, Copy)]
 pub struct Stroke {
     pub width: f64,
     pub join: Join,
@@ -35,7 +35,7 @@ pub struct Stroke {
 }
 
 // A shaped glyph of a run, with its ink box in the run's coordinates.
-#[derive(Drop)]
+#[derive(Clone, Copy)]
 pub struct Glyph {
     pub id: u32,
     pub x: f32,
@@ -45,7 +45,7 @@ pub struct Glyph {
 
 // One draw operation. Paths, brushes, fonts, scenes and targets are numbers, equal for equal things. The
 // clips and a run's glyphs are kept elsewhere.
-#[derive(Drop)]
+#[derive(Clone, Copy)]
 pub enum DrawCommand {
     FillPath {
         path: u64,

@@ -8,7 +8,7 @@ ghost use Rattle.device.specs.Region as Region;
 use geometry::Rect;
 
 // An axis-aligned region in whole device pixels, x and y at the top left.
-#[derive(Drop)]
+#[derive(Clone, Copy)]
 pub struct DeviceRegion {
     pub x: u32,
     pub y: u32,
@@ -17,7 +17,7 @@ pub struct DeviceRegion {
 }
 
 // A region, or nothing: dew's `Option<DeviceRegion>`.
-#[derive(Drop)]
+#[derive(Clone, Copy)]
 pub enum Converted {
     Region(DeviceRegion),
     Nothing,

@@ -7,14 +7,14 @@ ghost use Rattle.differences.specs.Differences as Differences;
 use geometry::Rect;
 
 // A part of a box, or word that it has no area.
-#[derive(Drop)]
+#[derive(Clone, Copy)]
 pub enum Part {
     Kept(Rect),
     Dropped,
 }
 
 // Up to four parts, in order: dew's list of boxes, by value.
-#[derive(Drop)]
+#[derive(Clone, Copy)]
 pub struct Parts {
     pub first: Part,
     pub second: Part,

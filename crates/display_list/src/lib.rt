@@ -10,7 +10,7 @@ use geometry::Rect;
 
 // How many clips and commands were pushed, the number of the innermost open clip (0 is none), and how many
 // clips are open.
-#[derive(Drop)]
+#[derive(Clone, Copy)]
 pub struct ListState {
     pub clips: usize,
     pub top: u64,

@@ -9,21 +9,21 @@ ghost use Rattle.strip.specs.Reading.{read_strip};
 use strip::{Answer, Cursor};
 
 // Width, height and band height, or the number that the header gets (its position is 0).
-#[derive(Drop)]
+#[derive(Clone, Copy)]
 pub enum Header {
     Sizes(u32, u32, u32),
     BadHeader(u32),
 }
 
 // Where the one strip of a first frame ended, or number and position.
-#[derive(Drop)]
+#[derive(Clone, Copy)]
 pub enum First {
     One(Cursor),
     NotOne(u32, usize),
 }
 
 // Where the old strip ended and where the new one, or number and position.
-#[derive(Drop)]
+#[derive(Clone, Copy)]
 pub enum Pair {
     Both(Cursor, Cursor),
     NotBoth(u32, usize),

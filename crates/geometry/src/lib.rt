@@ -7,7 +7,7 @@ ghost use Rattle.geometry.specs.Boxes as Boxes;
 ghost use Rattle.geometry.specs.Pixels as Pixels;
 
 // A box: two low edges, two high edges. It may be reversed.
-#[derive(Drop)]
+#[derive(Clone, Copy)]
 pub struct Rect {
     pub x0: f64,
     pub y0: f64,

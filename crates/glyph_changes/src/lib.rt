@@ -13,7 +13,7 @@ use geometry::Rect;
 
 // A run's glyphs: where the bytes of the first one begin, how many there are, and the transform and the clip
 // number that bring them to the window.
-#[derive(Drop)]
+#[derive(Clone, Copy)]
 pub struct Run {
     pub glyphs: usize,
     pub count: u32,

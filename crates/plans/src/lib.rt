@@ -5,7 +5,7 @@ use runtime::FrameWork;
 
 // Planned, with the number of rectangles, the number of index words, and dew's counters of the frame; or refused, with the
 // number and position of document 01's table.
-#[derive(Drop)]
+#[derive(Clone, Copy)]
 pub enum Plan {
     Planned(usize, usize, FrameWork),
     Refused(u32, usize),

@@ -13,7 +13,7 @@ use plans::Plan;
 const CANDIDATES: u8 = 3;
 
 // The space that a call names, in items.
-#[derive(Drop)]
+#[derive(Clone, Copy)]
 struct Space {
     commands: usize,
     glyphs: usize,

@@ -24,7 +24,7 @@ use geometry::Rect;
 use glyph_changes::Run;
 
 // The counts that dew keeps of a frame, as far as a plan tells them.
-#[derive(Drop)]
+#[derive(Clone, Copy)]
 pub struct FrameWork {
     pub commands_emitted: u64,
     pub pixels_transferred: u64,
@@ -45,7 +45,7 @@ impl FrameWork {
 }
 
 // A command of the list, decoded: its operands, its glyphs with its transform and clip number, and its box.
-#[derive(Drop)]
+#[derive(Clone, Copy)]
 struct PlacedCommand {
     command: DrawCommand,
     run: Run,

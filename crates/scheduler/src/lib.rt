@@ -10,7 +10,7 @@ ghost use Rattle.scheduler.specs.Schedule as Schedule;
 use device::DeviceRegion;
 
 // How many regions there are and how many pixels they have together; or that the space lent has no room for them.
-#[derive(Drop)]
+#[derive(Clone, Copy)]
 pub enum Scheduled {
     Regions(usize, u64),
     Full,

@@ -18,7 +18,7 @@ pub use reader::{Reader, read_behind};
 
 // Where reading stands: the offset, how many clips are open, what has been counted, how many glyphs are due of the run at
 // `run`, and the union of its glyph boxes so far.
-#[derive(Drop)]
+#[derive(Clone, Copy)]
 pub struct Cursor {
     pub at: usize,
     pub depth: u64,
@@ -32,7 +32,7 @@ pub struct Cursor {
 
 // What the command at the cursor does. `Draw` says that a drawing command is whole, with its offset and its transformed
 // box; `Next` that only the cursor moves.
-#[derive(Drop)]
+#[derive(Clone, Copy)]
 pub enum Step {
     Next(Cursor),
     Clip(Cursor, Rect),
@@ -45,14 +45,14 @@ pub enum Step {
 // What a command does, before the box of what it draws is transformed: a drawing command that is whole, with the cursor behind it,
 // its offset, where the command that completes it stands, its affine and its box; or all that there is to say. All boxes are then
 // transformed in one place, so that this is compiled into the loop that reads.
-#[derive(Drop)]
+#[derive(Clone, Copy)]
 enum Effect {
     Drawn(Cursor, usize, usize, Affine, Rect),
     Done(Step),
 }
 
 // What a strip is: read to its END, or turned away.
-#[derive(Drop)]
+#[derive(Clone, Copy)]
 pub enum Answer {
     Read(Cursor),
     Refused(u32, usize),
