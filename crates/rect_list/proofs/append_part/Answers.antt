@@ -6,7 +6,7 @@ use Rattle.rect_list.proofs.Appends.{added_as, added_none}
 use Rattle.rect_list.proofs.append_part.Goals as goal
 
 pub returns-in-Kept : goal.returns-in-Kept
-returns-in-Kept c = added_as (ap boxes_of (sym c.part-1.is)) (omega arith) c.append.ensures
+returns-in-Kept c = added_as (ap boxes_of (sym c.in-Kept.is)) (omega arith) c.append.ensures
 
 pub returns-in-Dropped : goal.returns-in-Dropped
-returns-in-Dropped c = added_as (ap boxes_of (sym c.enum_told-1.is)) (omega arith) (added_none {k = 1})
+returns-in-Dropped c = added_as (ap boxes_of (sym c.in-Dropped.is)) (omega arith) (added_none {k = 1})

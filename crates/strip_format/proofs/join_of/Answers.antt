@@ -1,0 +1,15 @@
+use Rattle.strip_format.specs.Format.{join_of}
+use borrow.Author.Tests.{ne_eqb}
+use Rattle.strip_format.proofs.join_of.Goals as goal
+
+pub returns-in-0 : goal.returns-in-0
+unfolding join_of
+returns-in-0 c = rw c.in-0.is
+
+pub returns-in-1 : goal.returns-in-1
+unfolding join_of
+returns-in-1 c = rw c.in-1.is
+
+pub returns-in_default : goal.returns-in_default
+unfolding join_of
+returns-in_default c = simp (ne_eqb _ _ c.in_default-own.rest.0.1, ne_eqb _ _ c.in_default-own.rest.1)

@@ -1,0 +1,31 @@
+use Rattle.strip_format.specs.Format.{length_of}
+use borrow.Author.Tests.{ne_eqb}
+use Rattle.strip_format.proofs.length_of.Goals as goal
+
+pub returns-in-1 : goal.returns-in-1
+unfolding length_of
+returns-in-1 c = rw c.in-1.is
+
+pub returns-in-3 : goal.returns-in-3
+unfolding length_of
+returns-in-3 c = rw c.in-3.is
+
+pub returns-in-4 : goal.returns-in-4
+unfolding length_of
+returns-in-4 c = rw c.in-4.is
+
+pub returns-in-5 : goal.returns-in-5
+unfolding length_of
+returns-in-5 c = rw c.in-5.is
+
+pub returns-in-6 : goal.returns-in-6
+unfolding length_of
+returns-in-6 c = rw c.in-6.is
+
+pub returns-in-7 : goal.returns-in-7
+unfolding length_of
+returns-in-7 c = rw c.in-7.is
+
+pub returns-in_default : goal.returns-in_default
+unfolding length_of
+returns-in_default c = simp (ne_eqb _ _ c.in_default-own.rest.0.0.0.0.0.1, ne_eqb _ _ c.in_default-own.rest.0.0.0.0.1, ne_eqb _ _ c.in_default-own.rest.0.0.0.1, ne_eqb _ _ c.in_default-own.rest.0.0.1, ne_eqb _ _ c.in_default-own.rest.0.1, ne_eqb _ _ c.in_default-own.rest.1)
