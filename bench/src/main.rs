@@ -16,7 +16,7 @@ use std::process::ExitCode;
 
 use oracle::header::Header;
 use ours::Ours;
-use pages::{clipped_turn, glyph_turn, page_turn, rectangle_turn, Changes, Turn, PANEL};
+use pages::{Changes, PANEL, Turn, clipped_turn, glyph_turn, page_turn, rectangle_turn};
 
 type Row = (String, Box<dyn Fn() -> Turn>);
 

@@ -1,7 +1,7 @@
 //! The proved library, with space lent that just fits.
 
 use oracle::command::{Draw, Op};
-use sovdringa::{plan_next, plan_next_growing, Counts, Limits, Plan, Space};
+use sovdringa::{Counts, Limits, Plan, Space, plan_next, plan_next_growing};
 
 use crate::pages::Turn;
 
@@ -18,17 +18,16 @@ impl Ours {
             .expect("a page of the benchmark has a plan")
             .counts();
         let [commands, glyphs, clips] = items(turn);
-        let space = Space::new(Limits {
-            commands,
-            glyphs,
-            clips,
-            rectangles: counts.rectangles,
-            regions: counts.regions,
-            index_words: counts.index_words,
-        });
+        let limits = Limits::default()
+            .with_commands(commands)
+            .with_glyphs(glyphs)
+            .with_clips(clips)
+            .with_rectangles(counts.rectangles)
+            .with_regions(counts.regions)
+            .with_index_words(counts.index_words);
         Self {
             input,
-            space,
+            space: Space::new(limits),
             counts,
         }
     }

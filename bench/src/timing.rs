@@ -52,7 +52,7 @@ fn processor_time() -> Duration {
         seconds: i64,
         nanoseconds: i64,
     }
-    extern "C" {
+    unsafe extern "C" {
         fn clock_gettime(clock: i32, time: *mut Timespec) -> i32;
     }
     const THREAD_PROCESSOR_TIME: i32 = 3;

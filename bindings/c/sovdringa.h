@@ -3,7 +3,7 @@
  * A frame is a strip of drawing commands. The planner compares the last frame's strip with the new one and answers which
  * rectangles changed, which regions of the screen to paint anew, band by band, and which commands may touch each region.
  *
- * The library is libsovdringa.a, which `rt staticlib sovdringa` writes to target/staticlib (x86-64 Linux). It is compiled
+ * The library is libsovdringa.a, which bindings/library writes to target/staticlib (x86-64 Linux). It is compiled
  * from proved code (the compiler is covered by no proof, and nothing holds this header to the code but the tests beside
  * it): whatever the bytes and however little space is lent, a call ends, stays within the slices that it was given, and
  * leaves in them what is said below. It keeps nothing between calls, allocates nothing and reads and writes nothing but

@@ -3,7 +3,7 @@
 use std::env;
 use std::path::{Path, PathBuf};
 
-/// Where `rt staticlib sovdringa` leaves it, from this package.
+/// Where `bindings/library` leaves it, from this package.
 const IN_THE_REPOSITORY: &str = "../../target/staticlib";
 
 /// Another folder that holds it.
@@ -31,7 +31,7 @@ fn main() {
     println!("cargo::rerun-if-changed={}", archive.display());
     if !archive.is_file() {
         println!(
-            "cargo::error={} is not there: make it with `rt staticlib sovdringa` in the repository, \
+            "cargo::error={} is not there: make it with `bindings/library` in the repository, \
              or name its folder in {OTHER_FOLDER}",
             archive.display()
         );

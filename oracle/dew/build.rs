@@ -1,6 +1,8 @@
 //! Finds dew's published source beside the repository. Three files are compiled
 //! where they lie; of others, single functions are cut out of the text, since
 //! the rest of those files needs the whole of dew. Nothing is copied by hand.
+//! How dew lays out and writes its code is dew's: rustfmt follows no `include!`,
+//! so it never reads these files, and clippy is told to say nothing of them.
 
 use std::env;
 use std::fs;
@@ -43,7 +45,8 @@ fn main() {
             "dew's {name}.rs is missing in {}",
             source.display()
         );
-        modules += &format!("#[allow(dead_code)]\n#[path = {file:?}]\npub mod {name};\n");
+        modules +=
+            &format!("#[allow(dead_code, clippy::all)]\n#[path = {file:?}]\npub mod {name};\n");
     }
     write(&out.join("modules.rs"), &modules);
     for (file, start, piece) in PIECES {
@@ -51,7 +54,11 @@ fn main() {
         println!("cargo::rerun-if-changed={}", file.display());
         let text = fs::read_to_string(&file)
             .unwrap_or_else(|error| panic!("cannot read {}: {error}", file.display()));
-        write(&out.join(format!("{piece}.rs")), cut(&text, start, piece));
+        let function = cut(&text, start, piece);
+        write(
+            &out.join(format!("{piece}.rs")),
+            &format!("#[allow(clippy::all)]\n{function}\n"),
+        );
     }
     println!("cargo::rustc-cfg=dew");
     println!("cargo::metadata=present=1");

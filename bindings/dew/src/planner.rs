@@ -8,7 +8,7 @@ use dew::display_list::DisplayList;
 use dew::painter::Painter;
 use dew::stats::FrameWork;
 use kurbo::Rect;
-use sovdringa::{plan_first_growing, plan_next_growing, Header, Plan, Refusal, Region, Space};
+use sovdringa::{Header, Plan, Refusal, Region, Space, plan_first_growing, plan_next_growing};
 
 use crate::page::{Page, Unwritten};
 
@@ -65,11 +65,7 @@ impl Planner {
     #[must_use]
     pub fn new(width: u32, height: u32, band_height: u32) -> Self {
         Self {
-            header: Header {
-                width,
-                height,
-                band_height,
-            },
+            header: Header::new(width, height, band_height),
             space: Space::default(),
             current: None,
             used: 0,
@@ -122,7 +118,7 @@ impl<'a> Turn<'a> {
 
     /// `diff_dirty`, or the whole screen.
     #[must_use]
-    pub fn dirty(&self) -> impl ExactSizeIterator<Item = Rect> + 'a {
+    pub fn dirty(&self) -> impl ExactSizeIterator<Item = Rect> + use<'a> {
         self.plan
             .rectangles()
             .map(|rect| Rect::new(rect.x0, rect.y0, rect.x1, rect.y1))
@@ -130,7 +126,7 @@ impl<'a> Turn<'a> {
 
     /// `BandScheduler::schedule`.
     #[must_use]
-    pub fn regions(&self) -> impl ExactSizeIterator<Item = DeviceRegion> + 'a {
+    pub fn regions(&self) -> impl ExactSizeIterator<Item = DeviceRegion> + use<'a> {
         self.plan.regions().map(|region| DeviceRegion {
             x: region.x,
             y: region.y,

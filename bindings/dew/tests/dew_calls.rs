@@ -4,7 +4,7 @@
 #[path = "../examples/compare/calls.rs"]
 mod calls;
 
-use calls::{compare, Tally};
+use calls::{Tally, compare};
 use oracle::command::Op;
 use oracle::generate::Kind;
 use oracle::header::Header;

@@ -8,12 +8,12 @@ use oracle::generate::frames::call_input;
 use oracle::header::Header;
 use oracle::model::mistake::Mistake;
 use oracle::panels::run_lists;
-use oracle::panels::subject::{with_mistake, Subject};
+use oracle::panels::subject::{Subject, with_mistake};
 use oracle::plan::{Plan, Region};
 use oracle::planners;
 use oracle::refusal::Refusal;
 use oracle::write::strip;
-use sovdringa::{plan_first, plan_next, Space};
+use sovdringa::{Space, plan_first, plan_next};
 
 /// Lists of frames that the library plans: 10,000, or as many as the variable LISTS says.
 fn lists() -> u64 {
@@ -63,11 +63,7 @@ fn planned(header: &Header, old: Option<&[Op]>, new: &[Op]) -> Plan {
 
 /// The library's `candidates`, as the panels ask it.
 fn candidates(header: Header, y: u32, words: &[u32]) -> Result<&[u32], Refusal> {
-    let screen = sovdringa::Header {
-        width: header.width,
-        height: header.height,
-        band_height: header.band_height,
-    };
+    let screen = sovdringa::Header::new(header.width, header.height, header.band_height);
     sovdringa::candidates(screen, y, words).map_err(|_| Refusal::new(oracle::refusal::ROW, 0))
 }
 

@@ -8,8 +8,8 @@ use std::fmt::Write;
 use std::fs;
 use std::process::ExitCode;
 
-use sovdringa::strip::{read, Cap, Command, Join, Stroke};
-use sovdringa::{plan_next_growing, Affine, Header, Plan, Rect, Refusal, Region, Space};
+use sovdringa::strip::{Cap, Command, Join, Stroke, read};
+use sovdringa::{Affine, Header, Plan, Rect, Refusal, Region, Space, plan_next_growing};
 
 fn main() -> ExitCode {
     let arguments: Vec<String> = env::args().skip(1).collect();
@@ -88,6 +88,8 @@ fn shown(page: &[Command]) -> Vec<Shown> {
                 (Kind::Run, run.affine, boxes)
             }
             Command::Scene(scene) => (Kind::Scene, scene.affine, vec![scene.bounds]),
+            // A picture without it would be wrong.
+            unknown => panic!("a command that is not drawn yet: {unknown:?}"),
         };
         let on_screen = |bounds| {
             let transformed = transform(affine, bounds);

@@ -1,7 +1,9 @@
 //! Boxes, regions and transforms.
 
-/// The screen's size and the height of its bands, from 1 to 32,768 each.
+/// The screen's size and the height of its bands, from 1 to 32,768 each. [`Header::new`] makes one: later versions may
+/// say more of a screen.
 #[derive(Debug, Clone, Copy, PartialEq, Eq, Hash)]
+#[non_exhaustive]
 pub struct Header {
     /// Pixels from left to right.
     pub width: u32,
@@ -15,15 +17,21 @@ impl Header {
     /// Bytes of a header.
     pub const LENGTH: usize = 12;
 
+    /// A screen of these sizes, whether they are in range or not.
+    #[must_use]
+    pub const fn new(width: u32, height: u32, band_height: u32) -> Self {
+        Self {
+            width,
+            height,
+            band_height,
+        }
+    }
+
     /// The sizes as they stand in an input, whether they are in range or not; nothing where there are fewer bytes.
     #[must_use]
     pub fn read(input: &[u8]) -> Option<Self> {
         let word = |at: usize| Some(u32::from_le_bytes(input.get(at..at + 4)?.try_into().ok()?));
-        Some(Self {
-            width: word(0)?,
-            height: word(4)?,
-            band_height: word(8)?,
-        })
+        Some(Self::new(word(0)?, word(4)?, word(8)?))
     }
 
     /// The header as it stands in an input.

@@ -21,36 +21,32 @@ use crate::refusal::{Reason, Refusal};
 ///
 /// After every call the scratch is zero, and after a refusal the output is as it was.
 ///
+/// `Lent::default()` lends nothing, and the slices are set one by one: later versions may have more of them. For items whose slice
+/// was not set there is no room, and a call that needs one is refused with number 10.
+///
 /// ```
 /// use sovdringa::strip::{next_input, Strip};
 /// use sovdringa::{Header, Lent, Rect};
 ///
 /// // Two pages that open a clip and draw nothing: no rectangle, no region, and the four starts of three bands without a command.
-/// let header = Header { width: 40, height: 40, band_height: 16 };
-/// let mut words = [9; 5];
-/// let mut lent = Lent {
-///     rects: &mut [],
-///     regions: &mut [],
-///     words: &mut words,
-///     boxes: &mut [0.0; 16],
-///     below: &mut [0; 2],
-///     items: &mut [],
-///     item_boxes: &mut [],
-///     glyph_items: &mut [],
-///     draft_rects: &mut [],
-///     work: &mut [],
-///     spare: &mut [],
-///     draft_regions: &mut [],
-///     draft_words: &mut [0; 5],
-/// };
 /// let mut clipped = Strip::new();
 /// clipped.clip(Rect::new(0.0, 0.0, 8.0, 8.0));
-/// let counts = lent.plan_next(&next_input(header, &clipped, &clipped))?;
+/// let input = next_input(Header::new(40, 40, 16), &clipped, &clipped);
+///
+/// let (mut words, mut draft_words) = ([9; 5], [0; 5]);
+/// let (mut boxes, mut below) = ([0.0; 16], [0; 2]);
+/// let mut lent = Lent::default();
+/// lent.words = &mut words;
+/// lent.draft_words = &mut draft_words;
+/// lent.boxes = &mut boxes;
+/// lent.below = &mut below;
+/// let counts = lent.plan_next(&input)?;
 /// assert_eq!((counts.regions, counts.index_words), (0, 4));
 /// assert_eq!(words, [0, 0, 0, 0, 9]);
 /// # Ok::<(), sovdringa::Refusal>(())
 /// ```
-#[derive(Debug)]
+#[derive(Debug, Default)]
+#[non_exhaustive]
 pub struct Lent<'a> {
     /// Output: x0, y0, x1, y1 of each rectangle.
     pub rects: &'a mut [f64],
@@ -101,7 +97,15 @@ impl Lent<'_> {
 }
 
 fn counts(answer: Answer) -> Result<Counts, Refusal> {
-    let [number, position, rectangles, regions, index_words, pixels, commands] = answer;
+    let [
+        number,
+        position,
+        rectangles,
+        regions,
+        index_words,
+        pixels,
+        commands,
+    ] = answer;
     match number {
         0 => Ok(Counts {
             rectangles: rectangles as usize,

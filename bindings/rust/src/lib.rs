@@ -9,7 +9,7 @@
 //! use sovdringa::strip::{next_input, Shape, Strip};
 //! use sovdringa::{plan_next, Affine, Header, Rect, Space};
 //!
-//! let header = Header { width: 40, height: 40, band_height: 16 };
+//! let header = Header::new(40, 40, 16);
 //! let ground = Shape { path: 2, bounds: Rect::new(0.0, 0.0, 40.0, 16.0), affine: Affine::IDENTITY, brush: 2 };
 //! let cell = |x| Shape { path: 1, bounds: Rect::new(0.0, 0.0, 4.0, 4.0), affine: Affine::translate(x, 14.0), brush: 1 };
 //! let (mut old, mut new) = (Strip::new(), Strip::new());
@@ -45,7 +45,7 @@ pub mod strip;
 pub use geometry::{Affine, Header, Rect, Region};
 pub use lent::Lent;
 pub use plan::{
-    candidates, plan_first, plan_first_growing, plan_next, plan_next_growing, Counts, Plan,
+    Counts, Plan, candidates, plan_first, plan_first_growing, plan_next, plan_next_growing,
 };
 pub use refusal::{Reason, Refusal};
 pub use space::{Limits, Space};

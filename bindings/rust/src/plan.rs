@@ -7,6 +7,7 @@ use crate::space::Space;
 
 /// How much a plan has of everything.
 #[derive(Debug, Clone, Copy, PartialEq, Eq, Hash)]
+#[non_exhaustive]
 pub struct Counts {
     /// Changed rectangles.
     pub rectangles: usize,
@@ -121,7 +122,7 @@ impl<'space> Plan<'space> {
 
     /// What changed, in dew's order.
     #[must_use]
-    pub fn rectangles(&self) -> impl ExactSizeIterator<Item = Rect> + 'space {
+    pub fn rectangles(&self) -> impl ExactSizeIterator<Item = Rect> + use<'space> {
         self.rects
             .chunks_exact(4)
             .map(|edges| Rect::new(edges[0], edges[1], edges[2], edges[3]))
@@ -129,7 +130,7 @@ impl<'space> Plan<'space> {
 
     /// The regions to paint anew, from the top, in each band from the left. No two overlap, and none crosses a band edge.
     #[must_use]
-    pub fn regions(&self) -> impl ExactSizeIterator<Item = Region> + 'space {
+    pub fn regions(&self) -> impl ExactSizeIterator<Item = Region> + use<'space> {
         self.regions.chunks_exact(4).map(|words| Region {
             x: words[0],
             y: words[1],

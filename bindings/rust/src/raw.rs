@@ -12,7 +12,7 @@ pub(crate) type Answer = [u64; 7];
 /// Declares an entry and the safe function that calls it.
 macro_rules! entry {
     ($name:ident, $symbol:ident) => {
-        extern "C" {
+        unsafe extern "C" {
             fn $symbol(
                 input: *const u8,
                 input_len: usize,
@@ -93,7 +93,7 @@ macro_rules! entry {
 entry!(plan_first, sovdringa_plan_first);
 entry!(plan_next, sovdringa_plan_next);
 
-extern "C" {
+unsafe extern "C" {
     fn sovdringa_candidates(
         width: u32,
         height: u32,

@@ -5,6 +5,7 @@ use std::fmt;
 
 /// An input turned away: why, and at which byte of it.
 #[derive(Debug, Clone, Copy, PartialEq, Eq, Hash)]
+#[non_exhaustive]
 pub struct Refusal {
     /// The row of document 01's table.
     pub reason: Reason,

@@ -3,8 +3,19 @@
 use crate::geometry::Header;
 use crate::lent::Lent;
 
-/// How many items a call may need at most. One of each kind too few, and the call is refused with number 10.
+/// How many items a call may need at most. One of any kind too few, and the call is refused with number 10.
+///
+/// `Limits::default()` is none of anything, and each kind has a method that sets it: later versions may have more kinds.
+///
+/// ```
+/// use sovdringa::{Limits, Space};
+///
+/// let limits = Limits::default().with_commands(64).with_rectangles(32).with_regions(32).with_index_words(1_024);
+/// assert_eq!((limits.commands, limits.glyphs), (64, 0));
+/// assert_eq!(Space::new(limits).limits(), limits);
+/// ```
 #[derive(Debug, Clone, Copy, PartialEq, Eq, Hash, Default)]
+#[non_exhaustive]
 pub struct Limits {
     /// Drawing commands of both strips.
     pub commands: usize,
@@ -34,6 +45,48 @@ impl Limits {
     /// What the plan program lends beside the commands, glyphs and clips.
     const PROGRAM_REGIONS: usize = 4_096;
     const PROGRAM_WORDS: usize = 16_384;
+
+    /// The same with so many drawing commands.
+    #[must_use]
+    pub const fn with_commands(mut self, commands: usize) -> Self {
+        self.commands = commands;
+        self
+    }
+
+    /// The same with so many glyphs.
+    #[must_use]
+    pub const fn with_glyphs(mut self, glyphs: usize) -> Self {
+        self.glyphs = glyphs;
+        self
+    }
+
+    /// The same with so many clips.
+    #[must_use]
+    pub const fn with_clips(mut self, clips: usize) -> Self {
+        self.clips = clips;
+        self
+    }
+
+    /// The same with so many rectangles.
+    #[must_use]
+    pub const fn with_rectangles(mut self, rectangles: usize) -> Self {
+        self.rectangles = rectangles;
+        self
+    }
+
+    /// The same with so many regions.
+    #[must_use]
+    pub const fn with_regions(mut self, regions: usize) -> Self {
+        self.regions = regions;
+        self
+    }
+
+    /// The same with so many index words.
+    #[must_use]
+    pub const fn with_index_words(mut self, index_words: usize) -> Self {
+        self.index_words = index_words;
+        self
+    }
 
     /// Enough commands, glyphs, clips and rectangles for every input of so many bytes, and the plan program's 4,096 regions
     /// and 16,384 index words, which depend on the screen more than on the bytes.

@@ -112,6 +112,7 @@ pub struct Scene {
 /// One command of a strip, as [`read`] finds it.
 #[derive(Debug, Clone, PartialEq)]
 #[allow(missing_docs)]
+#[non_exhaustive]
 pub enum Command {
     Clip(Rect),
     Pop,

@@ -2,10 +2,10 @@
 
 mod common;
 
-use common::{page, BOX, GLYPH, HEADER, RUN, SHAPE, STROKE};
-use sovdringa::strip::{first_input, next_input, Shape, Strip};
+use common::{BOX, GLYPH, HEADER, RUN, SHAPE, STROKE, page};
+use sovdringa::strip::{Shape, Strip, first_input, next_input};
 use sovdringa::{
-    candidates, plan_first, plan_next, Affine, Header, Reason, Rect, Refusal, Region, Space,
+    Affine, Header, Reason, Rect, Refusal, Region, Space, candidates, plan_first, plan_next,
 };
 
 /// The refusal of a page as a first frame, with space enough.
@@ -19,7 +19,7 @@ fn refused_bytes(input: &[u8]) -> Refusal {
 
 #[track_caller]
 fn assert_refused(refusal: Refusal, reason: Reason, position: usize) {
-    assert_eq!(refusal, Refusal { reason, position });
+    assert_eq!((refusal.reason, refusal.position), (reason, position));
 }
 
 #[test]
@@ -29,11 +29,7 @@ fn sizes_out_of_range() {
             let mut sizes = [40, 40, 16];
             sizes[place] = wrong;
             let [width, height, band_height] = sizes;
-            let header = Header {
-                width,
-                height,
-                band_height,
-            };
+            let header = Header::new(width, height, band_height);
             assert_refused(
                 refused_bytes(&first_input(header, &page())),
                 Reason::Size,
@@ -171,16 +167,13 @@ fn rows_below_the_index_and_words_that_are_none() {
         height: 1,
     };
     assert!(plan.candidates(region(47)).is_ok());
-    let row = Refusal {
-        reason: Reason::Row,
-        position: 0,
-    };
-    assert_eq!(plan.candidates(region(48)), Err(row));
-    let words = plan.index_words().to_vec();
-    assert_eq!(candidates(HEADER, 0, &words[..3]), Err(row));
-    assert_eq!(candidates(HEADER, 0, &[]), Err(row));
-    assert_eq!(candidates(HEADER, 0, &[1, 0, 0, 0]), Err(row));
-    assert_eq!(candidates(HEADER, 0, &[0, 1, 1, 1]), Err(row));
+    let below = plan.candidates(region(48)).expect_err("below the index");
+    assert_refused(below, Reason::Row, 0);
+    let words = plan.index_words();
+    for words in [&words[..3], &[], &[1, 0, 0, 0], &[0, 1, 1, 1]] {
+        let refusal = candidates(HEADER, 0, words).expect_err("no index");
+        assert_refused(refusal, Reason::Row, 0);
+    }
     assert_eq!(candidates(HEADER, 0, &[0, 0, 0, 0]), Ok(&[][..]));
 }
 

@@ -2,11 +2,11 @@
 
 mod common;
 
-use common::{example, page, Slices, HEADER, SHAPE};
-use sovdringa::strip::{first_input, next_input, Shape, Strip};
+use common::{HEADER, SHAPE, Slices, example, page};
+use sovdringa::strip::{Shape, Strip, first_input, next_input};
 use sovdringa::{
-    plan_first, plan_first_growing, plan_next, plan_next_growing, Affine, Counts, Header, Limits,
-    Reason, Rect, Space,
+    Affine, Counts, Header, Lent, Limits, Reason, Rect, Space, plan_first, plan_first_growing,
+    plan_next, plan_next_growing,
 };
 
 /// A page turn that needs an item of each kind, with the items that it needs.
@@ -18,14 +18,13 @@ fn turn() -> (Vec<u8>, Counts, Limits) {
     let counts = plan_next(&mut Space::for_input(&input), &input)
         .expect("a plan")
         .counts();
-    let limits = Limits {
-        commands: 9,
-        glyphs: 4,
-        clips: 2,
-        rectangles: counts.rectangles,
-        regions: counts.regions,
-        index_words: counts.index_words,
-    };
+    let limits = Limits::default()
+        .with_commands(9)
+        .with_glyphs(4)
+        .with_clips(2)
+        .with_rectangles(counts.rectangles)
+        .with_regions(counts.regions)
+        .with_index_words(counts.index_words);
     (input, counts, limits)
 }
 
@@ -118,24 +117,13 @@ fn refused_bytes_leave_the_output_and_clear_the_scratch() {
 
 #[test]
 fn no_space_at_all_has_an_answer() {
-    let mut nothing = Slices::filled(Limits {
-        commands: 0,
-        glyphs: 0,
-        clips: 0,
-        rectangles: 0,
-        regions: 0,
-        index_words: 0,
-    });
+    let input = next_input(HEADER, &Strip::new(), &Strip::new());
     let number = |result: Result<Counts, sovdringa::Refusal>| result.expect_err("refused").number();
-    assert_eq!(number(nothing.lend().plan_first(&[])), 2);
-    assert_eq!(
-        number(
-            nothing
-                .lend()
-                .plan_next(&next_input(HEADER, &Strip::new(), &Strip::new()))
-        ),
-        10
-    );
+    let mut slices = Slices::filled(Limits::default());
+    for mut nothing in [slices.lend(), Lent::default()] {
+        assert_eq!(number(nothing.plan_first(&[])), 2);
+        assert_eq!(number(nothing.plan_next(&input)), 10);
+    }
 }
 
 #[test]
@@ -175,11 +163,7 @@ fn fills(pairs: usize) -> (Strip, Strip) {
 #[test]
 fn limits_from_an_input_are_never_too_small() {
     let (old, new) = fills(40);
-    let tall = Header {
-        width: 7,
-        height: 900,
-        band_height: 1,
-    };
+    let tall = Header::new(7, 900, 1);
     let empty = Strip::new();
     let mut moved = Strip::new();
     for place in 0..60 {
@@ -212,11 +196,7 @@ fn limits_from_an_input_are_never_too_small() {
 #[test]
 fn space_grows_until_a_plan_fits() {
     let (old, new) = fills(8);
-    let tall = Header {
-        width: 40,
-        height: 40,
-        band_height: 1,
-    };
+    let tall = Header::new(40, 40, 1);
     let input = next_input(tall, &old, &new);
     let needed = plan_next(&mut Space::for_input(&input), &input)
         .expect("a plan")
@@ -237,18 +217,10 @@ fn space_grows_until_a_plan_fits() {
 
 #[test]
 fn sizes_out_of_range_ask_for_no_space() {
-    let huge = Header {
-        width: u32::MAX,
-        height: u32::MAX,
-        band_height: 1,
-    };
+    let huge = Header::new(u32::MAX, u32::MAX, 1);
     let limits = Limits::for_input(&huge.bytes());
     assert!(limits.index_words <= 32_769 && limits.regions <= 32_768);
-    let none = Header {
-        width: 1,
-        height: 1,
-        band_height: 0,
-    };
+    let none = Header::new(1, 1, 0);
     assert_eq!(none.rows(), 0);
     assert!(plan_first(&mut Space::for_input(&none.bytes()), &none.bytes()).is_err());
 }

@@ -2,9 +2,9 @@
 
 mod common;
 
-use common::{example, page, printed, BOX, GLYPH, HEADER, RUN, SCENE, SHAPE, STROKE};
-use sovdringa::strip::{first_input, next_input, read, Shape, Strip};
-use sovdringa::{plan_first, plan_next, Affine, Header, Rect, Space};
+use common::{BOX, GLYPH, HEADER, RUN, SCENE, SHAPE, STROKE, example, page, printed};
+use sovdringa::strip::{Shape, Strip, first_input, next_input, read};
+use sovdringa::{Affine, Header, Rect, Space, plan_first, plan_next};
 
 /// The pages of an input, written anew.
 fn rewritten(input: &[u8]) -> Vec<Strip> {

@@ -4,7 +4,7 @@ use std::fmt;
 use std::ops::Range;
 
 use oracle::calls::{Call, Request};
-use oracle::entry::{call, Accepted, Entry};
+use oracle::entry::{Accepted, Entry, call};
 use oracle::generate::{self, Kind};
 use oracle::header::Header;
 use oracle::plan::Planner;
@@ -82,7 +82,7 @@ pub fn compare(kind: Kind, seeds: Range<u64>, planner: Planner) -> Result<Tally,
                         seed,
                         what,
                         call,
-                    }))
+                    }));
                 }
             }
         }
@@ -95,14 +95,13 @@ fn one(call: &Call, planner: Planner) -> Result<u32, String> {
     match &call.request {
         Request::Frame { entry, space } => {
             let [commands, glyphs, clips, rectangles, regions, index_words] = space.items();
-            let limits = Limits {
-                commands,
-                glyphs,
-                clips,
-                rectangles,
-                regions,
-                index_words,
-            };
+            let limits = Limits::default()
+                .with_commands(commands)
+                .with_glyphs(glyphs)
+                .with_clips(clips)
+                .with_rectangles(rectangles)
+                .with_regions(regions)
+                .with_index_words(index_words);
             frame(
                 *entry,
                 &call.input,
@@ -139,16 +138,7 @@ fn same<T: PartialEq + fmt::Debug>(what: &str, ours: T, expected: T) -> Result<(
 
 /// A row of the index, from any words.
 fn candidates(header: Header, y: u32, words: &[u32]) -> Result<u32, String> {
-    let Header {
-        width,
-        height,
-        band_height,
-    } = header;
-    let sizes = sovdringa::Header {
-        width,
-        height,
-        band_height,
-    };
+    let sizes = sovdringa::Header::new(header.width, header.height, header.band_height);
     let expected = oracle::candidates::candidates(header, y, words)
         .map_err(|refusal| (u32::from(refusal.number), refusal.at));
     let ours = sovdringa::candidates(sizes, y, words)

@@ -15,7 +15,7 @@ use oracle::header::Header;
 use oracle::model::{self, mistake::Mistake};
 use oracle::planners;
 
-use calls::{compare, Tally};
+use calls::{Tally, compare};
 
 /// Kinds with few seeds of their own: the document's 18 cases, and inputs of megabytes.
 const DOCUMENT_SEEDS: u64 = 18;
@@ -71,7 +71,9 @@ fn run(mut words: Vec<String>) -> Result<(), String> {
         (Some(_), _) => &with_mistake,
         (None, Some(dew)) => dew,
         (None, None) => {
-            println!("compare: dew's source is not beside the repository: nothing is compared and nothing counted");
+            println!(
+                "compare: dew's source is not beside the repository: nothing is compared and nothing counted"
+            );
             return Ok(());
         }
     };

@@ -1,6 +1,6 @@
 //! Reads what [`Strip`](super::Strip) writes, for pictures and tests. The planner has a reader of its own, which is proved.
 
-use super::{code, Cap, Command, Glyph, Join, Run, Scene, Shape, Stroke};
+use super::{Cap, Command, Glyph, Join, Run, Scene, Shape, Stroke, code};
 use crate::geometry::{Affine, Header, Rect};
 
 /// The header of an input and the commands of its pages, one page or two; nothing where the bytes are cut off, or a byte is no

@@ -35,11 +35,7 @@ pub fn printed(plan: &Plan<'_>) -> String {
     text + &format!("regions {} pixels {}\n", counts.regions, counts.pixels)
 }
 
-pub const HEADER: Header = Header {
-    width: 40,
-    height: 40,
-    band_height: 16,
-};
+pub const HEADER: Header = Header::new(40, 40, 16);
 
 pub const BOX: Rect = Rect::new(1.0, 2.0, 9.0, 20.0);
 

@@ -21,6 +21,7 @@ impl Slices {
             rectangles,
             regions,
             index_words,
+            ..
         } = limits;
         Self {
             floats: [4 * rectangles, 8 * clips, 4 * commands, 4 * rectangles]
@@ -36,21 +37,21 @@ impl Slices {
         let [rects, boxes, item_boxes, draft_rects] = &mut self.floats;
         let [below, items, glyph_items, work, spare] = &mut self.longs;
         let [regions, words, draft_regions, draft_words] = &mut self.words;
-        Lent {
-            rects,
-            regions,
-            words,
-            boxes,
-            below,
-            items,
-            item_boxes,
-            glyph_items,
-            draft_rects,
-            work,
-            spare,
-            draft_regions,
-            draft_words,
-        }
+        let mut lent = Lent::default();
+        lent.rects = rects;
+        lent.regions = regions;
+        lent.words = words;
+        lent.boxes = boxes;
+        lent.below = below;
+        lent.items = items;
+        lent.item_boxes = item_boxes;
+        lent.glyph_items = glyph_items;
+        lent.draft_rects = draft_rects;
+        lent.work = work;
+        lent.spare = spare;
+        lent.draft_regions = draft_regions;
+        lent.draft_words = draft_words;
+        lent
     }
 
     /// Rectangles, regions and index words.
