@@ -1,6 +1,4 @@
-// A strip held together with the offset at which it is read, above the cursor's functions. The borrow checker covers no function
-// over a struct that holds a reference, so each is proved by hand: they are few, and hold no branch and no loop. The one at the
-// end has plain parameters, so that its callers are proved as any function is.
+// A strip held together with the offset at which it is read, above the cursor's functions. The one at the end has plain parameters.
 ghost use Rattle.std.specs.Prelude.{◌≡◌};
 ghost use Rattle.strip.specs.Reading as Reading;
 
