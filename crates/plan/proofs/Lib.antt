@@ -1,2 +1,1 @@
--- Laws behind the program's proofs.
 pub mod Fits

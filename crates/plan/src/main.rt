@@ -2,14 +2,16 @@
 // input is turned away.
 #![tactic(auto)]
 
-ghost use Rattle.std.specs.Prelude.{◌*◌, ◌≤◌, length};
+ghost use Rattle.std.specs.Prelude.{◌*◌, ◌≤◌, length, IfOk};
 
 use frame::Header;
-use libc::{STDERR_FILENO, STDIN_FILENO};
 use plans::Plan;
+use std::io;
+use std::io::Read;
 
 // The line of a region, and of what to draw there.
 fn put_region(
+    rt: &impl Print,
     out: &mut [u8; 4096],
     at: usize,
     x: u32,
@@ -17,19 +19,20 @@ fn put_region(
     width: u32,
     height: u32,
     row: &[u32],
-) -> usize {
-    let named = printing::put(out, at, b"region");
-    let left = printing::put_number(out, named, x as u64);
-    let top = printing::put_number(out, left, y as u64);
-    let wide = printing::put_number(out, top, width as u64);
-    let high = printing::put_number(out, wide, height as u64);
-    let drawn = printing::put(out, high, b" draw");
-    printing::put_numbers(out, drawn, row)
+) -> io::Result<usize> {
+    let named = printing::put(rt, out, at, b"region")?;
+    let left = printing::put_number(rt, out, named, x as u64)?;
+    let top = printing::put_number(rt, out, left, y as u64)?;
+    let wide = printing::put_number(rt, out, top, width as u64)?;
+    let high = printing::put_number(rt, out, wide, height as u64)?;
+    let drawn = printing::put(rt, out, high, b" draw")?;
+    printing::put_numbers(rt, out, drawn, row)
 }
 
 // The first n regions of a plan, each with the candidates that the plan's own words give: the first `count` of the space
 // lent for them.
 fn put_regions(
+    rt: &impl Print,
     out: &mut [u8; 4096],
     at: usize,
     width: u32,
@@ -39,7 +42,7 @@ fn put_regions(
     n: usize,
     words: &[u32],
     count: usize,
-) -> usize
+) -> io::Result<usize>
     requires { (4 * n ≤ length regions.now) × (count ≤ length words.now) }
 {
     let mut to = at;
@@ -47,6 +50,7 @@ fn put_regions(
         let y = regions[4 * i + 1];
         let row = candidates::candidates(width, height, band_height, y, &words[..count]);
         to = put_region(
+            rt,
             out,
             to,
             regions[4 * i],
@@ -54,19 +58,20 @@ fn put_regions(
             regions[4 * i + 2],
             regions[4 * i + 3],
             row,
-        );
+        )?;
     }
-    to
+    Ok(to)
 }
 
-fn print_refusal(number: u32, position: usize) {
+fn print_refusal(rt: &impl Print, number: u32, position: usize) -> io::Result<()> {
     let mut out = [0u8; 4096];
-    let at = printing::put_refusal(&mut out, 0, number, position);
-    printing::finish(&out, at);
+    let at = printing::put_refusal(rt, &mut out, 0, number, position)?;
+    printing::finish(rt, &out, at)
 }
 
 // The whole plan: the number of rectangles, the regions, the totals. An input that has a plan has its three sizes.
 fn print_plan(
+    rt: &impl Print,
     input: &[u8],
     rects: usize,
     regions: &[u32; 16384],
@@ -74,17 +79,18 @@ fn print_plan(
     pixels: u64,
     words: &[u32; 16384],
     count: usize,
-)
+) -> io::Result<()>
     requires { (n ≤ 4096) × (count ≤ 16384) }
 {
     let Header::Sizes(width, height, band_height) = frame::read_header(input) else {
-        return;
+        return Ok(());
     };
     let mut out = [0u8; 4096];
-    let named = printing::put(&mut out, 0, b"dirty");
-    let counted = printing::put_number(&mut out, named, rects as u64);
-    let begun = printing::put_byte(&mut out, counted, b'\n');
+    let named = printing::put(rt, &mut out, 0, b"dirty")?;
+    let counted = printing::put_number(rt, &mut out, named, rects as u64)?;
+    let begun = printing::put_byte(rt, &mut out, counted, b'\n')?;
     let listed = put_regions(
+        rt,
         &mut out,
         begun,
         width,
@@ -94,15 +100,15 @@ fn print_plan(
         n,
         words,
         count,
-    );
-    let whole = printing::put_totals(&mut out, listed, n as u64, pixels);
-    printing::finish(&out, whole);
+    )?;
+    let whole = printing::put_totals(rt, &mut out, listed, n as u64, pixels)?;
+    printing::finish(rt, &out, whole)
 }
 
 // Lends the space that document 01 names: 2,048 rectangles, 4,096 regions and 16,384 index words, and more commands, glyphs
 // and clips than 65,536 bytes can carry. The shortest drawing command has 97 bytes, so that there are 675 at most; a glyph
 // has 45 (1,456 at most) and a clip 33 (1,985).
-fn answer(input: &[u8]) {
+fn answer(rt: &impl Print, input: &[u8]) -> io::Result<()> {
     let mut rects = [0.0f64; 8192];
     let mut regions = [0u32; 16384];
     let mut words = [0u32; 16384];
@@ -136,30 +142,41 @@ fn answer(input: &[u8]) {
         Plan::Planned(n, count, work) => {
             let region_count = work.regions_transferred as usize;
             let pixels = work.pixels_transferred;
-            print_plan(input, n, &regions, region_count, pixels, &words, count);
+            print_plan(rt, input, n, &regions, region_count, pixels, &words, count)
         }
-        Plan::Refused(number, position) => print_refusal(number, position),
+        Plan::Refused(number, position) => print_refusal(rt, number, position),
     }
 }
 
-// Whether standard input has ended. A read that fails looks like the end to `read_full`; one more read tells them apart.
-fn at_end() -> bool {
-    let mut byte = [0u8; 1];
-    libc::read(STDIN_FILENO, &mut byte) == 0
+// Reads until the array is full or the input ends; how many bytes stand at its front.
+fn read_full(input: &mut impl Read, buf: &mut [u8]) -> io::Result<usize>
+    ensures { IfOk result (λ n. n ≤ length buf.new) }
+{
+    let mut done = 0;
+    while done < buf.len() {
+        let n = input.read(&mut buf[done..])?;
+        if n == 0 {
+            break;
+        }
+        done += n;
+    }
+    Ok(done)
 }
 
 // One byte more than an input may have shows that it is too long.
-fn main() {
+fn main(rt: HostRuntime) -> io::Result<()> {
     let mut input = [0u8; 65537];
-    let n = io::read_full(STDIN_FILENO, &mut input);
-    if n > 65536 {
-        print_refusal(10, 0);
-    } else if at_end() {
-        answer(&input[..n]);
-    } else {
-        io::write_all(
-            STDERR_FILENO,
-            b"plan: standard input could not be read to its end\n",
-        );
+    match read_full(&mut rt.stdin(), &mut input) {
+        Ok(n) => {
+            if n > 65536 {
+                print_refusal(&rt, 10, 0)
+            } else {
+                answer(&rt, &input[..n])
+            }
+        }
+        Err(error) => {
+            eprintln!(rt; "plan: standard input could not be read to its end")?;
+            Err(error)
+        }
     }
 }

@@ -3,11 +3,12 @@
 // is lent. Each answer is followed by a line with a single dot.
 #![tactic(auto)]
 
-ghost use Rattle.std.specs.Prelude.{◌+◌, ◌≤◌, ◌<◌, length};
+ghost use Rattle.std.specs.Prelude.{◌+◌, ◌≤◌, ◌<◌, length, IfOk};
 
 use entry_calls::FIRST;
-use libc::{STDERR_FILENO, STDIN_FILENO};
 use plans::Plan;
+use std::io;
+use std::io::Read;
 
 // The first byte of a call of `candidates`.
 const CANDIDATES: u8 = 3;
@@ -23,24 +24,32 @@ struct Space {
     words: usize,
 }
 
+// Whether the input ended before the bytes that were to be read.
+fn has_ended(error: &io::Error) -> bool {
+    error.kind() == io::ErrorKind::UnexpectedEof
+}
+
 // Reads the next call to the front, and says how many bytes it has; 0 where there is no call, or none that is whole.
-fn take_call(call: &mut [u8]) -> usize
-    ensures { result ≤ length call.new }
+fn take_call(rt: &impl Eprint, input: &mut impl Read, call: &mut [u8]) -> io::Result<usize>
+    ensures { IfOk result (λ n. n ≤ length call.new) }
 {
     let mut length = [0u8; 4];
-    if io::read_full(STDIN_FILENO, &mut length) < 4 {
-        return 0;
+    if let Err(error) = input.read_exact(&mut length) {
+        return if has_ended(&error) { Ok(0) } else { Err(error) };
     }
     let n = little_endian::u32_at(&length, 0) as usize;
     if call.len() < n {
-        io::write_all(STDERR_FILENO, b"replay: a call is too long\n");
-        return 0;
+        eprintln!(rt; "replay: a call is too long")?;
+        return Ok(0);
     }
-    if io::read_full(STDIN_FILENO, &mut call[..n]) < n {
-        io::write_all(STDERR_FILENO, b"replay: the last call is cut off\n");
-        return 0;
+    if let Err(error) = input.read_exact(&mut call[..n]) {
+        if has_ended(&error) {
+            eprintln!(rt; "replay: the last call is cut off")?;
+            return Ok(0);
+        }
+        return Err(error);
     }
-    n
+    Ok(n)
 }
 
 fn items_at(call: &[u8], at: usize) -> usize
@@ -103,12 +112,19 @@ fn take_words(call: &[u8], words: &mut [u32]) -> usize
 }
 
 // A call of `candidates`: header, y and words.
-fn answer_candidates(out: &mut [u8; 4096], at: usize, call: &[u8], words: &mut [u32]) -> usize {
+fn answer_candidates(
+    rt: &impl Print,
+    out: &mut [u8; 4096],
+    at: usize,
+    call: &[u8],
+    words: &mut [u32],
+) -> io::Result<usize> {
     if call.len() < 17 {
-        return printing::put(out, at, b"header or y is cut off\n");
+        return printing::put(rt, out, at, b"header or y is cut off\n");
     }
     let n = take_words(call, words);
     full_form::put_candidates(
+        rt,
         out,
         at,
         little_endian::u32_at(call, 1) as u32,
@@ -121,6 +137,7 @@ fn answer_candidates(out: &mut [u8; 4096], at: usize, call: &[u8], words: &mut [
 
 // A frame's answer.
 fn put_frame(
+    rt: &impl Print,
     out: &mut [u8; 4096],
     at: usize,
     call: &[u8],
@@ -128,18 +145,19 @@ fn put_frame(
     rects: &[f64; 33024],
     regions: &[u32; 131328],
     words: &[u32; 65664],
-) -> usize {
+) -> io::Result<usize> {
     if call.len() < 25 {
-        return printing::put(out, at, b"the space lent is cut off\n");
+        return printing::put(rt, out, at, b"the space lent is cut off\n");
     }
     if call[0] == FIRST {
-        return full_form::put_first(out, at, &call[25..], plan, rects, regions, words);
+        return full_form::put_first(rt, out, at, &call[25..], plan, rects, regions, words);
     }
-    full_form::put_next(out, at, &call[25..], plan, rects, regions, words)
+    full_form::put_next(rt, out, at, &call[25..], plan, rects, regions, words)
 }
 
 // The answer to the call in the first n bytes, and the dot behind it. The plan is a frame's; a call of `candidates` has none.
 fn put_answer(
+    rt: &impl Print,
     out: &mut [u8; 4096],
     at: usize,
     all: &[u8],
@@ -149,21 +167,26 @@ fn put_answer(
     rects: &[f64; 33024],
     regions: &[u32; 131328],
     words: &[u32; 65664],
-) -> usize
+) -> io::Result<usize>
     requires { (0 < n) × (n ≤ length all.now) }
 {
     let call = &all[..n];
     if call[0] == CANDIDATES {
-        let drawn = answer_candidates(out, at, call, asked);
-        return printing::put(out, drawn, b".\n");
+        let drawn = answer_candidates(rt, out, at, call, asked)?;
+        return printing::put(rt, out, drawn, b".\n");
     }
-    let planned = put_frame(out, at, call, plan, rects, regions, words);
-    printing::put(out, planned, b".\n")
+    let planned = put_frame(rt, out, at, call, plan, rects, regions, words)?;
+    printing::put(rt, out, planned, b".\n")
 }
 
 // All calls of standard input. They share more space than two strips at every limit need, and each is lent as much of it as it
 // names. One function holds all of the arrays: handed on to others, they would cost the prover a quarter of a minute each time.
-fn answer_calls(call: &mut [u8; 1572864], asked: &mut [u32; 65664]) {
+fn answer_calls(
+    rt: &(impl Print + Eprint),
+    input: &mut impl Read,
+    call: &mut [u8; 1572864],
+    asked: &mut [u32; 65664],
+) -> io::Result<()> {
     let mut rects = [0.0f64; 33024];
     let mut regions = [0u32; 131328];
     let mut words = [0u32; 65664];
@@ -179,11 +202,12 @@ fn answer_calls(call: &mut [u8; 1572864], asked: &mut [u32; 65664]) {
     let mut draft_words = [0u32; 65664];
     let mut out = [0u8; 4096];
     let mut at = 0;
-    let mut n = take_call(call);
-    // A proved loop ends: it counts down from a number that no batch uses up.
-    let mut turns = u64::MAX;
-    while n > 0 && turns > 0 {
-        turns -= 1;
+    // A proved loop ends: it has more turns than any batch uses up.
+    for _ in 0..u64::MAX {
+        let n = take_call(rt, input, call)?;
+        if n == 0 {
+            break;
+        }
         let entry = call[0];
         let framed = frame_bytes(entry, n);
         let space = space_of(call, framed);
@@ -213,15 +237,16 @@ fn answer_calls(call: &mut [u8; 1572864], asked: &mut [u32; 65664]) {
             &mut draft_regions[..regions_end],
             &mut draft_words[..words_end],
         );
-        at = put_answer(&mut out, at, call, n, asked, plan, &rects, &regions, &words);
-        n = take_call(call);
+        at = put_answer(
+            rt, &mut out, at, call, n, asked, plan, &rects, &regions, &words,
+        )?;
     }
-    printing::finish(&out, at);
+    printing::finish(rt, &out, at)
 }
 
 // The longest call has two strips at every limit.
-fn main() {
+fn main(rt: HostRuntime) -> io::Result<()> {
     let mut call = [0u8; 1572864];
     let mut asked = [0u32; 65664];
-    answer_calls(&mut call, &mut asked);
+    answer_calls(&rt, &mut rt.stdin(), &mut call, &mut asked)
 }

@@ -1,9 +1,0 @@
--- `put` is safe and ends: the bytes that are left grow fewer. Assumes nothing.
-use Prim.Native.Nat.{◌-◌}
-use Rattle.printing.proofs.put.Given as goal
-
-abbrev pub invariant-loop-i : goal.invariant-loop-i
-invariant-loop-i l = Unit {0}
-
-abbrev pub decreases-loop-i : goal.decreases-loop-i
-decreases-loop-i l = l.i-end - l.i
