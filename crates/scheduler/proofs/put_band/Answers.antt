@@ -1,0 +1,23 @@
+-- `put_band` meets its contract: the first i regions are written. Assumes nothing.
+use native.Mathlib.Omega.{arith}
+use Rattle.scheduler.proofs.Writes.{write_start, write_next, write_end, pixels_low, area_few}
+use Rattle.scheduler.proofs.put_band.Goals as goal
+
+pub loop-i-init : goal.loop-i-init
+loop-i-init c = write_start _ _ _ _ c.requires.0
+
+pub overflow_add-sum : goal.overflow_add-sum
+overflow_add-sum c =
+    omega (arith, pixels_low c.loop-i.invariant, area_few _ _ c.from_yx-r.ensures _ c.area-sum.ensures)
+
+pub loop-i-preserved : goal.loop-i-preserved
+loop-i-preserved c =
+    write_next c.loop-i.invariant c.loop-i-test.true c.requires.2 _ c.from_yx-r.ensures _ c.put_region.auto.out c.put_region.ensures _ c.area-sum.ensures
+
+pub returns : goal.returns
+returns c =
+    let all = write_end c.loop-i.invariant c.loop-i-test.false in
+    record {
+      value = all.0;
+      out_after = all.1;
+    }
