@@ -1,6 +1,12 @@
 -- What an accepted plan counts fits the space lent, so that the program may read so far. Assumes nothing.
-use Rattle.std.proofs.Common.{◌≡◌, sym, subst, Bool, true, ◌&&◌, ℕ, ◌≤◌, leb, length, arith, leb-true}
+use mathlib.Core.Path.{◌≡◌, sym, ◌∙◌, subst}
+use mathlib.Core.Bool.{Bool, true, false, ◌&&◌}
+use Prim.Native.Nat.{ℕ, ◌≤◌}
+use lib.Dec.{leb}
+use lib.ListN.{length}
 use lib.Ieee.Fits.{and_l, and_r}
+use borrow.Author.Tests.{leb-true}
+use native.Mathlib.Omega.{arith}
 use Rattle.lists.proofs.Picks.{pick_cases}
 use Rattle.lists.proofs.Bools.{holds, is_true}
 use Rattle.runtime.specs.declared.FrameWork.{FrameWork}
@@ -44,6 +50,6 @@ answer_fits z (drafted i d) =
     (λ e. (omega arith, omega arith))
 
 pub planned_fits :
-    (z : Lent) (o : Outcome) (n c : ℕ) (w : FrameWork) → Planned n c w ≡ answer_of z o → (w.regions_transferred ≤ z.regions) × (c ≤ z.words)
+    (z : Lent) (o : Outcome) (r : Plan) (n c : ℕ) (w : FrameWork) → r ≡ answer_of z o → r ≡ Planned n c w → (w.regions_transferred ≤ z.regions) × (c ≤ z.words)
 unfolding Fitting
-planned_fits z o n c w e = subst (Fitting z) (sym e) (answer_fits z o)
+planned_fits z o r n c w e f = subst (Fitting z) (sym e ∙ f) (answer_fits z o)

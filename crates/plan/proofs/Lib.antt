@@ -1,1 +1,2 @@
+-- Laws behind the program's proofs.
 pub mod Fits

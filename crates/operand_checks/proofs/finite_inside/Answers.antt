@@ -5,8 +5,7 @@ use Rattle.operand_checks.proofs.Finite.{finite_none, finite_more, finite_stop}
 use Rattle.operand_checks.proofs.finite_inside.Goals as goal
 
 pub loop-left-preserved : goal.loop-left-preserved
-loop-left-preserved c =
-    (
+loop-left-preserved c = (
   search rules,
   sym (finite_more _ _ _ c.loop-left-test.true (sym c.finite64_inside.ensures ∙ c.if-finite64_inside.true)) ∙ c.loop-left.invariant.1,
 )

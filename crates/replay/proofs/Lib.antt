@@ -1,0 +1,2 @@
+-- Laws behind the program's proofs.
+pub mod Lengths
