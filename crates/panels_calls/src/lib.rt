@@ -2,7 +2,6 @@
 // crate `panels` proves that the panels agree.
 #![tactic(auto)]
 
-
 ghost use Rattle.planner.specs.Calls.{slices};
 ghost use Rattle.panels_calls.specs.Calls.{CalledFirst, CalledNext};
 
