@@ -2,4 +2,5 @@
 pub mod Answers
 pub mod Corners
 pub mod Near
+pub mod Unbounded
 pub mod Values

@@ -3,4 +3,5 @@ pub mod Sorted
 pub mod Keyed
 pub mod Joins
 pub mod Cuts
+pub mod Values
 pub mod Turns

@@ -1,4 +1,4 @@
--- A part that is found lies within the words. Assumes nothing.
+-- A part that is found lies within the words; and the number tells whether one is found. Assumes nothing.
 use mathlib.Core.Path.{◌≡◌, refl}
 use mathlib.Core.Bool.{Bool, true, false, ◌||◌}
 use Prim.Native.Nat.{ℕ, ◌+◌, ◌-◌, ◌/◌, ◌≤◌, ◌<◌}
@@ -8,10 +8,11 @@ use borrow.Author.Tests.{leb-false, ltb-false, eqb-false}
 use lib.Dec.{leb, ltb, eqb}
 use lib.ListN.{length, get_or}
 use Rattle.lists.specs.Pick.{pick}
+use Rattle.lists.proofs.Picks.{pick_cases}
 use Rattle.rows.specs.Rows.{row_count}
 use Rattle.candidates.specs.declared.Lookup.{Lookup}
 use Rattle.candidates.specs.declared.Lookup.TheVariants.{Part, Refused}
-use Rattle.candidates.specs.Table.{bad_size, bad_sizes, bad_row, find_row, find}
+use Rattle.candidates.specs.Table.{bad_size, bad_sizes, bad_row, find_row, find, number_of, refusal}
 
 -- of two tests of which neither holds, each fails
 pub neither : (a b : Bool) → (a || b) ≡ false → (a ≡ false) × (b ≡ false)
@@ -55,3 +56,19 @@ pub part_within : (width height band y s e : ℕ) (words : List ℕ) → find wi
 unfolding find
 part_within width height band y s e words h =
     row_within (row_count height band) (y / band) s e words (found (bad_sizes width height band) 1 s e _ h).1
+
+-- ---- the number
+abbrev Tells : Lookup → Type 0
+Tells x = number_of x ≡ 0 → (s : ℕ) × (e : ℕ) × (x ≡ Part s e)
+
+-- no refusal has the number 0: where the number is 0, there is a row
+pub zero_found : (width height band y : ℕ) (words : List ℕ) → refusal width height band y words ≡ 0 → (s : ℕ) × (e : ℕ) × (find width height band y words ≡ Part s e)
+unfolding find find_row
+zero_found width height band y words =
+    let rows = row_count height band in
+    let r = y / band in
+    pick_cases Tells (bad_sizes width height band) (Refused 1) _
+    (λ f z. absurd (omega (arith, z)))
+    (λ f. pick_cases Tells (bad_row rows r words) (Refused 11) (Part (rows + 1 + get_or words r 0) (rows + 1 + get_or words (r + 1) 0))
+    (λ b z. absurd (omega (arith, z)))
+    (λ b z. (rows + 1 + get_or words r 0, rows + 1 + get_or words (r + 1) 0, refl)))

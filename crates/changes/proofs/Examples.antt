@@ -24,11 +24,11 @@ abbrev pub identity : Affine
 identity = record { a = whole 1; b = whole 0; c = whole 0; d = whole 1; e = whole 0; f = whole 0 }
 
 -- a run of a size, an own box, and glyphs
-abbrev run : Float → Rect → ℕ → List Glyph → Command
+abbrev pub run : Float → Rect → ℕ → List Glyph → Command
 run size b n gs = record { draw = GlyphRun 1 size identity 1 b n; glyphs = gs; clips = [] }
 
 -- a glyph at column x, one wide
-abbrev glyph : ℕ → ℕ → Glyph
+abbrev pub glyph : ℕ → ℕ → Glyph
 glyph id x = record { id = id; x = whole x; y = whole 0; bounds = box x 0 (x + 1) 1 }
 
 -- a square filled under clips
@@ -51,7 +51,7 @@ unfolding changed_bounds changed_glyphs equal same_drawing same_run fills_alike 
 moved_glyph = refl
 
 -- sizes 0 and -0 are equal by value and differ in their bits: once a glyph moves, the runs are not alike, and the command boxes are united
-signed_size : changed_bounds (run (of_bits binary32 0) (box 0 0 9 1) 2 (glyph 5 0 ∷ glyph 6 2 ∷ [])) (run (of_bits binary32 2147483648) (box 0 0 9 1) 2 (glyph 5 0 ∷ glyph 6 4 ∷ [])) ≡ box 0 0 5 1 ∷ []
+pub signed_size : changed_bounds (run (of_bits binary32 0) (box 0 0 9 1) 2 (glyph 5 0 ∷ glyph 6 2 ∷ [])) (run (of_bits binary32 2147483648) (box 0 0 9 1) 2 (glyph 5 0 ∷ glyph 6 4 ∷ [])) ≡ box 0 0 5 1 ∷ []
 unfolding changed_bounds changed_glyphs equal same_drawing same_run fills_alike runs_alike_clipped runs_alike run_alike same_affine same_bits same_glyph equal_glyph equal_glyphs same_clips same_edges bounds glyph_bounds united_from transform_rect_bbox bounding_box larger smaller lt add mul eq to_bits of_int of_bits
 signed_size = refl
 

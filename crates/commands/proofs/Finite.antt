@@ -27,7 +27,7 @@ use Rattle.commands.proofs.Clips.{Upright, clipped_edges, clipped_upright}
 abbrev pub Number : Float → Type 0
 Number x = T (finite x) × T (fits binary64 x)
 
-number_ordered : (x : Float) → Number x → T (ordered x)
+pub number_ordered : (x : Float) → Number x → T (ordered x)
 number_ordered x e = and_i (fits binary64 x) (not_nan x) e.1 (finite_not_nan x e.0)
 
 pub numbers_ordered : (b : Rect) → Edges Number b → Ordered b

@@ -1,5 +1,5 @@
 -- The union of a run's glyph boxes, glyph by glyph, and the local box that code finds with it. Assumes nothing.
-use mathlib.Core.Path.{◌≡◌, refl, ◌∙◌}
+use mathlib.Core.Path.{◌≡◌, refl, ap, ◌∙◌}
 use mathlib.Core.List.{List, [], ◌∷◌, ◌++◌}
 use Prim.Native.Nat.{ℕ, ◌<◌}
 use native.Mathlib.Omega.{arith}
@@ -9,10 +9,11 @@ use borrow.Author.Tests.{eq-eqb, ne_eqb}
 use Rattle.lists.specs.Pick.{pick}
 use Rattle.geometry.specs.declared.Rect.{Rect}
 use Rattle.geometry.specs.Boxes.{union}
+use Rattle.affine.specs.Affines.{try_transform}
 use Rattle.commands.specs.declared.Glyph.{Glyph}
 use Rattle.commands.specs.declared.DrawCommand.{DrawCommand}
 use Rattle.commands.specs.declared.DrawCommand.TheVariants.{FillPath, StrokePath, GlyphRun, Scene}
-use Rattle.commands.specs.Bounds.{glyph_count, united_from, united, local_bounds, local_with}
+use Rattle.commands.specs.Bounds.{transform_of, glyph_count, united_from, united, local_bounds, local_with, try_with}
 
 from_last : (b : Rect) (gs : List Glyph) (g : Glyph) → united_from b (gs ++ (g ∷ [])) ≡ union (united_from b gs) g.bounds
 unfolding united_from
@@ -43,3 +44,7 @@ local_is (FillPath path b t brush) u own gs e f = refl
 local_is (StrokePath path b t stroke brush) u own gs e f = refl
 local_is (GlyphRun font size t brush b n) u own gs e f = run_box n b u gs e (λ h. f h ∙ united_any own b gs h)
 local_is (Scene content generation target t b) u own gs e f = refl
+
+-- so number 9 is decided by the box of the command with its glyphs
+pub try_is_local : (d : DrawCommand) (u own : Rect) (gs : List Glyph) → glyph_count d ≡ length gs → (0 < length gs → u ≡ united own gs) → try_with d u ≡ try_transform (transform_of d) (local_bounds d gs)
+try_is_local d u own gs e f = ap (try_transform (transform_of d)) (local_is d u own gs e f)

@@ -10,11 +10,12 @@ use Rattle.ieee.proofs.Values.{Same, mul_same, div_same}
 use Rattle.floats.proofs.Orders.{larger_same}
 use Rattle.geometry.specs.declared.Rect.{Rect}
 use Rattle.geometry.specs.Boxes.{intersect, union}
-use Rattle.geometry.proofs.Edges.{Edges}
+use Rattle.geometry.proofs.Edges.{Edges, edges_map}
 use Rattle.geometry.proofs.Values.{SameBox, union_same, intersect_same}
 use Rattle.affine.specs.declared.Affine.{Affine}
 use Rattle.affine.proofs.Values.{SameAffine, transform_same}
 use Rattle.lists.specs.Members.{All}
+use Rattle.lists.proofs.Members.{all_map}
 use Rattle.commands.specs.declared.Join.{Join}
 use Rattle.commands.specs.declared.Join.TheVariants as J
 use Rattle.commands.specs.declared.Stroke.{Stroke}
@@ -43,6 +44,24 @@ pub record Floats (P : Float → Type 0) (c : Command) : Type 0 where
   pub draw : DrawFloats P c.draw
   pub glyphs : All (λ g. Edges P g.bounds) c.glyphs
   pub clips : All (Edges P) c.clips
+
+-- what follows of each float
+module _ (P Q : Float → Type 0) (f : (x : Float) → P x → Q x) where
+  entries_map : (t : Affine) → Entries P t → Entries Q t
+  entries_map t e = record { a = f t.a e.a; b = f t.b e.b; c = f t.c e.c; d = f t.d e.d; e = f t.e e.e; f = f t.f e.f }
+
+  draw_map : (d : DrawCommand) → DrawFloats P d → DrawFloats Q d
+  draw_map (FillPath path b t brush) e = (edges_map P Q f b e.0, entries_map t e.1)
+  draw_map (StrokePath path b t stroke brush) e = (edges_map P Q f b e.0, entries_map t e.1, f stroke.width e.2, f stroke.miter_limit e.3)
+  draw_map (GlyphRun font size t brush b n) e = (edges_map P Q f b e.0, entries_map t e.1)
+  draw_map (Scene content generation target t b) e = (edges_map P Q f b e.0, entries_map t e.1)
+
+  pub floats_map : (c : Command) → Floats P c → Floats Q c
+  floats_map c e = record {
+    draw = draw_map c.draw e.draw;
+    glyphs = all_map (λ (g : Glyph). Edges P g.bounds) (λ g. Edges Q g.bounds) (λ g. edges_map P Q f g.bounds) c.glyphs e.glyphs;
+    clips = all_map (Edges P) (Edges Q) (edges_map P Q f) c.clips e.clips;
+  }
 
 -- ---- strokes
 pub record SameStroke (s t : Stroke) : Type 0 where

@@ -2,3 +2,4 @@
 -- Boxes and affines are those of the crates `geometry` and `affine`.
 pub mod Strokes
 pub mod Bounds
+pub mod Sizes

@@ -201,3 +201,12 @@ module _ (c d : Command) (p : Floats Good c) (q : Floats Good d) where
   alike_glyphs e g h s =
       let k = both (runs_alike c.draw d.draw) (same_clips c.clips d.clips) e in
       glyph_bounds_same c d (runs_same c.draw d.draw p.draw q.draw k.0) (clips_same c.clips d.clips p.clips q.clips k.1) g h s
+
+  -- and under either of two equal commands
+  pub equal_glyph_bounds : equal c d ≡ true → (g h : Glyph) → SameBox g.bounds h.bounds → SameBox (glyph_bounds c g) (glyph_bounds d h)
+  unfolding equal
+  equal_glyph_bounds e g h s =
+      let m = both (same_drawing c.draw d.draw && equal_glyphs c.glyphs d.glyphs) (same_clips c.clips d.clips) e in
+      let k = both (same_drawing c.draw d.draw) (equal_glyphs c.glyphs d.glyphs) m.0 in
+      let a = drawing_same c.draw d.draw c.glyphs d.glyphs p.draw q.draw (glyphs_same c.glyphs d.glyphs p.glyphs q.glyphs k.1) k.0 in
+      glyph_bounds_same c d a.0 (clips_same c.clips d.clips p.clips q.clips m.1) g h s

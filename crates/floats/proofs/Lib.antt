@@ -2,4 +2,5 @@
 pub mod Orders
 pub mod Wholes
 pub mod Nexts
+pub mod Values
 pub mod Tests

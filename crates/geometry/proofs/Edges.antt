@@ -17,6 +17,10 @@ pub record Edges (P : Float → Type 0) (b : Rect) : Type 0 where
   pub x1 : P b.x1
   pub y1 : P b.y1
 
+-- what follows of each edge
+pub edges_map : (P Q : Float → Type 0) → ((x : Float) → P x → Q x) → (b : Rect) → Edges P b → Edges Q b
+edges_map P Q f b e = record { x0 = f b.x0 e.x0; y0 = f b.y0 e.y0; x1 = f b.x1 e.x1; y1 = f b.y1 e.y1 }
+
 -- the edges fit binary64 and none is a NaN
 abbrev pub Ordered : Rect → Type 0
 Ordered = Edges (λ x. T (ordered x))

@@ -1,5 +1,6 @@
 -- Every operation on boxes is one of values: boxes that differ in the signs of zeros alone give boxes that do, and tests that agree. Assumes nothing.
-use Rattle.std.proofs.Common.{◌≡◌, ℕ, ◌+◌, true, ◌&&◌, refl, inl}
+use Rattle.std.proofs.Common.{◌≡◌, ℕ, ◌+◌, true, ◌&&◌, List, refl, inl}
+use Rattle.lists.specs.Places.{ByPlace}
 use lib.Ieee.{Float, eq}
 use lib.Ieee.Fits.{and_l, and_r}
 use Rattle.ieee.proofs.Values.{Same, same_value, add_same, sub_same, lt_same}
@@ -17,6 +18,13 @@ pub record SameBox (a b : Rect) : Type 0 where
   pub y0 : Same a.y0 b.y0
   pub x1 : Same a.x1 b.x1
   pub y1 : Same a.y1 b.y1
+
+pub box_self : (b : Rect) → SameBox b b
+box_self b = record { x0 = inl refl; y0 = inl refl; x1 = inl refl; y1 = inl refl }
+
+-- lists of boxes, place by place
+abbrev pub SameBoxes : List Rect → List Rect → Type 0
+SameBoxes l m = ByPlace SameBox l m
 
 -- ---- boxes with equal edges are such boxes, and the other way round
 pub edges_same : (a b : Rect) → Ordered a → Ordered b → same_edges a b ≡ true → SameBox a b

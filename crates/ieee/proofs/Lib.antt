@@ -2,5 +2,8 @@
 pub mod Rank
 pub mod Patterns
 pub mod Values
+pub mod Equals
+pub mod Comparisons
 pub mod Differences
 pub mod Magnitudes
+pub mod Finite

@@ -230,6 +230,9 @@ ordered x = fits binary64 x && not_nan x
 pub ordered_fits : (x : Float) → T (ordered x) → T (fits binary64 x)
 ordered_fits x t = and_l (fits binary64 x) (not_nan x) t
 
+pub ordered_not_nan : (x : Float) → T (ordered x) → T (not_nan x)
+ordered_not_nan x t = and_r (fits binary64 x) (not_nan x) t
+
 -- by what a need is handed of a parameter
 pub ordered_of : (x : Float) → fits binary64 x ≡ true → T (not_nan x) → T (ordered x)
 ordered_of x e t = and_i (fits binary64 x) (not_nan x) (subst T (sym e) tt) t

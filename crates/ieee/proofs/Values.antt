@@ -52,6 +52,11 @@ lift_test : (f : Float → Bool) → ((s t : Bool) → f (zero_of s) ≡ f (zero
 lift_test f h x y (inl p) = ap f p
 lift_test f h x y (inr p) = ap f p.0.1 ∙ h p.0.0 p.1.0 ∙ ap f (sym p.1.1)
 
+-- and one with values of any kind: they are equal
+pub by_value : {A : Type 0} (f : Float → A) → ((s t : Bool) → f (zero_of s) ≡ f (zero_of t)) → (x y : Float) → Same x y → f x ≡ f y
+by_value f h x y (inl p) = ap f p
+by_value f h x y (inr p) = ap f p.0.1 ∙ h p.0.0 p.1.0 ∙ ap f (sym p.1.1)
+
 -- an operation that commutes, by its first operand alone
 both : (f : Float → Float → Float) → ((x y : Float) → f x y ≡ f y x) → ((s t : Bool) (y : Float) → Same (f (zero_of s) y) (f (zero_of t) y)) → (x x' y y' : Float) → Same x x' → Same y y' → Same (f x y) (f x' y')
 both f comm h x x' y y' p q =

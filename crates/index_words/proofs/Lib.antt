@@ -4,3 +4,4 @@ pub mod Places
 pub mod Starts
 pub mod Painting
 pub mod Examples
+pub mod Values

@@ -1,6 +1,7 @@
 -- Laws of tests: as propositions, and joined by `&&`, for code that makes one after the other. Assumes nothing.
 use mathlib.Core.Path.{◌≡◌, refl, sym, ap, ◌∙◌, subst}
 use mathlib.Core.Bool.{Bool, true, false, ◌&&◌}
+use mathlib.Core.Logic.{◌⊎◌, inl, inr}
 use lib.Dec.{T}
 
 -- a test that holds is true, and what is true holds
@@ -40,6 +41,11 @@ and_true a b e f = sym (and_on a b e) ∙ f
 pub and_false : (a b : Bool) → b ≡ false → (a && b) ≡ false
 and_false true b e = e
 and_false false b e = refl
+
+-- where two do not both hold, one fails
+pub and_either : (a b : Bool) → (a && b) ≡ false → (a ≡ false) ⊎ (b ≡ false)
+and_either true b e = inr e
+and_either false b e = inl refl
 
 -- four in a row, by the first that fails
 module _ (a b c d : Bool) where

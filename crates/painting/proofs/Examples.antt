@@ -34,16 +34,16 @@ use Rattle.painting.specs.Painters.{Pixel, is_run, brush_of, Key, key_of, same_k
 use Rattle.painting.proofs.Keys.{same_ink, key_of_parts}
 
 -- ---- what equal drawings have in common
-record Kin (c d : DrawCommand) : Type 0 where
-  run : is_run c ≡ is_run d
-  brush : brush_of c ≡ brush_of d
-  ink : is_run c ≡ true → T (same_ink c d)
+pub record Kin (c d : DrawCommand) : Type 0 where
+  pub run : is_run c ≡ is_run d
+  pub brush : brush_of c ≡ brush_of d
+  pub ink : is_run c ≡ true → T (same_ink c d)
 
 path_brush : (n m : ℕ) (b b' : Rect) (t t' : Affine) (k l : ℕ) → T (same_path n b t k m b' t' l) → k ≡ l
 unfolding same_path
 path_brush n m b b' t t' k l e = eqb-true k l (is_true (eqb k l) (and_r (same_affine t t') (eqb k l) (and_r (eqb n m && same_edges b b') (same_affine t t' && eqb k l) e)))
 
-no_run : {A : Type 0} → false ≡ true → A
+pub no_run : {A : Type 0} → false ≡ true → A
 no_run e = absurd (true≢false (sym e))
 
 fill_kin : (n : ℕ) (b : Rect) (t : Affine) (k : ℕ) (d : DrawCommand) → T (same_fill n b t k d) → Kin (FillPath n b t k) d
@@ -78,14 +78,14 @@ scene_kin x g y t b (FillPath m b' t' l) e = absurd e
 scene_kin x g y t b (StrokePath m b' t' s l) e = absurd e
 scene_kin x g y t b (GlyphRun f z t' l b' i) e = absurd e
 
-drawing_kin : (c d : DrawCommand) → T (same_drawing c d) → Kin c d
+pub drawing_kin : (c d : DrawCommand) → T (same_drawing c d) → Kin c d
 unfolding same_drawing
 drawing_kin (FillPath n b t k) d e = fill_kin n b t k d e
 drawing_kin (StrokePath n b t s k) d e = stroke_kin n b t s k d e
 drawing_kin (GlyphRun f z t k b i) d e = run_kin f z t k b i d e
 drawing_kin (Scene x g y t b) d e = scene_kin x g y t b d e
 
-fills_kin : (c d : DrawCommand) → T (fills_alike c d) → (is_run c ≡ false) × Kin c d
+pub fills_kin : (c d : DrawCommand) → T (fills_alike c d) → (is_run c ≡ false) × Kin c d
 unfolding fills_alike
 fills_kin (FillPath n b t k) d e = (refl, fill_kin n b t k d e)
 fills_kin (StrokePath n b t s k) d e = absurd e

@@ -10,8 +10,39 @@ use Rattle.commands.specs.declared.DrawCommand.TheVariants.{FillPath, StrokePath
 use Rattle.commands.specs.Bounds.{Command, transform_of}
 use Rattle.operand_equality.specs.Operands.{same_affine, same_bits, same_glyph, same_clips}
 use Rattle.equality.specs.Drawings.{run_alike, runs_alike, runs_alike_clipped}
-use Rattle.painting.specs.Painters.{is_run, font_of, size_of, brush_of, key_of, same_key}
+use Rattle.painting.specs.Painters.{is_run, font_of, size_of, brush_of, Key, key_of, same_key}
 
+-- ---- a key's parts
+pub record KeyParts (j k : Key) : Type 0 where
+  pub font : T (eqb j.font k.font)
+  pub size : T (eq j.size k.size)
+  pub transform : T (same_affine j.transform k.transform)
+  pub brush : T (eqb j.brush k.brush)
+  pub clips : T (same_clips j.clips k.clips)
+  pub id : T (eqb j.id k.id)
+  pub x : T (eq j.x k.x)
+  pub y : T (eq j.y k.y)
+
+pub key_parts : (j k : Key) → T (same_key j k) → KeyParts j k
+unfolding same_key
+key_parts j k e =
+    let N = eqb j.font k.font in
+    let Z = eq j.size k.size in
+    let A = same_affine j.transform k.transform in
+    let B = eqb j.brush k.brush in
+    let K = same_clips j.clips k.clips in
+    let I = eqb j.id k.id in
+    let X = eq j.x k.x in
+    let Y = eq j.y k.y in
+    let run = and_l (N && Z && (A && B) && K) (I && (X && Y)) e in
+    let glyph = and_r (N && Z && (A && B) && K) (I && (X && Y)) e in
+    let ink = and_l (N && Z && (A && B)) K run in
+    let face = and_l (N && Z) (A && B) ink in
+    let look = and_r (N && Z) (A && B) ink in
+    let place = and_r I (X && Y) glyph in
+    record { font = and_l N Z face; size = and_r N Z face; transform = and_l A B look; brush = and_r A B look; clips = and_r (N && Z && (A && B)) K run; id = and_l I (X && Y) glyph; x = and_l X Y place; y = and_r X Y place }
+
+-- ---- keys of runs
 -- what a key has of its run, but for the clip
 abbrev pub same_ink : DrawCommand → DrawCommand → Bool
 same_ink c d = (eqb (font_of c) (font_of d) && eq (size_of c) (size_of d)) && (same_affine (transform_of c) (transform_of d) && eqb (brush_of c) (brush_of d))

@@ -32,13 +32,13 @@ use Rattle.painting.specs.Painters.{Pixel, Key, Rules}
 use Rattle.painting.proofs.Alike.{Sound, Unmet, lists_alike}
 
 module _ {w h b : ℕ} (s : Sizes w h b) where
-  width_size : Size w
+  pub width_size : Size w
   width_size = record { some = s.some_width; limit = s.width_most }
 
-  height_size : Size h
+  pub height_size : Size h
   height_size = record { some = s.some_height; limit = s.height_most }
 
-  band_size : Size b
+  pub band_size : Size b
   band_size = record { some = s.some_band; limit = s.band_most }
 
   -- I3: `candidates` refuses no region that is placed like those of a schedule

@@ -84,5 +84,5 @@ pub record Rules (w h : ℕ) (C : Type 0) (M : Command → Type 0) (paint : Comm
   pub glyph_untouched : (c : Command) → M c → is_run c.draw ≡ true → (g : Glyph) → In g c.glyphs → (px : Pixel w h) → touches (glyph_bounds c g) px.p px.q ≡ false → (k : C) → mark (key_of c g) px k ≡ k
 
 -- "The glyph rule: in the list's accepted frames, glyphs equal in font, size, id, x and y carry equal boxes."
-pub GlyphRule : (Command → Type 0) → Type 0
+abbrev pub GlyphRule : (Command → Type 0) → Type 0
 GlyphRule M = (c d : Command) → M c → M d → is_run c.draw ≡ true → is_run d.draw ≡ true → (g j : Glyph) → In g c.glyphs → In j d.glyphs → eqb (font_of c.draw) (font_of d.draw) ≡ true → eq (size_of c.draw) (size_of d.draw) ≡ true → same_glyph g j ≡ true → same_edges g.bounds j.bounds ≡ true

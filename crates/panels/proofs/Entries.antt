@@ -73,7 +73,7 @@ module _ (header : List ℕ) (twelve : length header ≡ 12) where
       front i j e h = let f : j ≡ i = omega arith in rw f (sym (get_or-append header s 0 i (omega (arith, twelve))))
 
   -- it is turned away, or its sizes fit
-  by_header : (P : Outcome → Type 0) (s : List ℕ) (k : ℕ → ℕ → ℕ → Outcome) → ((n : ℕ) → P (turned n 0)) → (Sizes w h b → P (k w h b)) → P (on_header (header_of (header ++ s)) k)
+  pub by_header : (P : Outcome → Type 0) (s : List ℕ) (k : ℕ → ℕ → ℕ → Outcome) → ((n : ℕ) → P (turned n 0)) → (Sizes w h b → P (k w h b)) → P (on_header (header_of (header ++ s)) k)
   unfolding header_of
   by_header P s k away f =
       rw (le-ltb (length (header ++ s)) 12 (omega (arith, twelve, length-append header s)), word_same s 0 (omega arith), word_same s 4 (omega arith), word_same s 8 (omega arith))
@@ -150,7 +150,7 @@ module _ (header : List ℕ) (twelve : length header ≡ 12) where
   call_made : (last : Option (List ℕ)) (s : List ℕ) (z : Slices) → Call (entries header) (OneStrip header) last s z → Drafted last s (call_of header last s)
   call_made last s z c = accepted_drafted last s (lent_of z) (call_of header last s) (call_drafted last s c.good_last) c.no_number
 
-  words_behind : (a : Plan) (new old : List ℕ) → accepted a ≡ true → published a new old ≡ new ++ drop (length new) old
+  pub words_behind : (a : Plan) (new old : List ℕ) → accepted a ≡ true → published a new old ≡ new ++ drop (length new) old
   words_behind (Planned r n k) new old e = refl
   words_behind (TurnedAway n p) new old e = absurd (true≢false (sym e))
 

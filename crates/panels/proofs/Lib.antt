@@ -4,3 +4,5 @@ pub mod Panels
 pub mod Examples
 pub mod Strips
 pub mod Entries
+pub mod Rows
+pub mod Frames

@@ -36,23 +36,23 @@ use Rattle.plans.specs.Space.{Lent}
 use Rattle.plans.specs.Answers.{items_fit, draft_fits, answer_of}
 
 -- 8, 8 and 4, u32 each
-abbrev header : List ℕ
+abbrev pub header : List ℕ
 header = 8 ∷ 0 ∷ 0 ∷ 0 ∷ 8 ∷ 0 ∷ 0 ∷ 0 ∷ 4 ∷ 0 ∷ 0 ∷ 0 ∷ []
 
 -- the f64 0, 1, 2 and 4, and the content number 1
-abbrev zero8 : List ℕ
+abbrev pub zero8 : List ℕ
 zero8 = 0 ∷ 0 ∷ 0 ∷ 0 ∷ 0 ∷ 0 ∷ 0 ∷ 0 ∷ []
 
-abbrev one8 : List ℕ
+abbrev pub one8 : List ℕ
 one8 = 0 ∷ 0 ∷ 0 ∷ 0 ∷ 0 ∷ 0 ∷ 240 ∷ 63 ∷ []
 
-abbrev two8 : List ℕ
+abbrev pub two8 : List ℕ
 two8 = 0 ∷ 0 ∷ 0 ∷ 0 ∷ 0 ∷ 0 ∷ 0 ∷ 64 ∷ []
 
 abbrev four8 : List ℕ
 four8 = 0 ∷ 0 ∷ 0 ∷ 0 ∷ 0 ∷ 0 ∷ 16 ∷ 64 ∷ []
 
-abbrev content : List ℕ
+abbrev pub content : List ℕ
 content = 1 ∷ 0 ∷ 0 ∷ 0 ∷ 0 ∷ 0 ∷ 0 ∷ 0 ∷ []
 
 -- FILL of path 1, box 0 0 2 2, moved so far to the right, brush 1; then END
@@ -71,6 +71,7 @@ pub record Turn : Type 0 where
   pub behind : answer_of (just 2) (first_outcome (header ++ square zero8 ++ (0 ∷ []))) ≡ Refused 8 110
   pub empty : answer_of (just 1) (next_outcome []) ≡ Refused 2 0
 
-pub worked : Turn
+-- other inputs are worked out by opening what is opened here: `unfolding worked`
+unfoldable pub worked : Turn
 unfolding first_outcome next_outcome items_fit draft_fits bounds_at bounds_to changed_glyphs changed_bounds diff_dirty same_fill same_stroked same_run same_scene run_alike same_drawing fills_alike runs_alike equal runs_alike_clipped read_from list_from due_fits clip_step pop_step draw_step run_step last_step glyph_step effect_of step_at finite_from finite_stroke finite_run finite_glyph codes_fit operands_at length_of join_of cap_of command_at glyphs_from with_area rect_difference rect_symmetric_difference keep around same_affine same_cap same_stroke same_bits same_glyph equal_glyph same_path equal_glyphs same_clips stroke_bounds_inflation united_from clip_from bounds glyph_bounds bounding_box transform_rect_bbox finite_point all_finite bound_finite try_transform spans meets touches positive_area same_edges u16_at u32_at u64_at finite_or floor ceil next_down larger smaller All Any Pairs size_fits header_of ended both_of first_of bands_to pixels_of words_of pack from_xy from_yx rect_at rects_to regions_of cut_to insert_by sort_by join_to join merge_overlapping insert sort AtLeast Ascending between intersect union stands_in places row_list entries_to start_of starts_to layout index_words of_int of_bits to_bits eq lt add mul div
 worked = record { turn = refl; first = refl; short = refl; behind = refl; empty = refl }

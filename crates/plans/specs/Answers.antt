@@ -1,5 +1,5 @@
 -- The answer to a call, and what it leaves in the output: from bytes and lent space alone.
-use Rattle.std.specs.Prelude.{Bool, true, false, ◌&&◌, List, [], ◌++◌, ℕ, leb, length, drop, Float}
+use Rattle.std.specs.Prelude.{◌≡◌, Bool, true, false, ◌&&◌, List, [], ◌++◌, ℕ, leb, length, drop, Float}
 use Rattle.lists.specs.Pick.{pick}
 use Rattle.rect_list.specs.Rects as Rects
 use Rattle.scheduler.specs.Schedule as Schedule
@@ -40,6 +40,52 @@ position_of (Refused n p) = p
 abbrev pub accepted : Plan → Bool
 accepted (Planned r w k) = true
 accepted (Refused n p) = false
+
+-- "Counts: regions, and pixels as the sum of width times height; commands emitted", and how many rectangles and index words the output has
+pub record Counts : Type 0 where
+  pub rects : ℕ
+  pub regions : ℕ
+  pub words : ℕ
+  pub pixels : ℕ
+  pub emitted : ℕ
+
+-- of what is refused there are none
+abbrev pub no_counts : Counts
+no_counts = record { rects = 0; regions = 0; words = 0; pixels = 0; emitted = 0 }
+
+abbrev pub counts_of : Plan → Counts
+counts_of (Planned r w k) = record { rects = r; regions = k.regions_transferred; words = w; pixels = k.pixels_transferred; emitted = k.commands_emitted }
+counts_of (Refused n p) = no_counts
+
+-- ---- and what they are for a call
+abbrev pub call_number : Lent → Outcome → ℕ
+call_number z (turned n p) = n
+call_number z (drafted i d) = pick (items_fit z i && draft_fits z d) 0 10
+
+abbrev pub call_position : Lent → Outcome → ℕ
+call_position z (turned n p) = p
+call_position z (drafted i d) = 0
+
+abbrev pub call_counts : Lent → Outcome → Counts
+call_counts z (turned n p) = no_counts
+call_counts z (drafted i d) =
+    pick (items_fit z i && draft_fits z d)
+    (record {
+      rects = length d.rects;
+      regions = length d.regions;
+      words = length d.words;
+      pixels = Schedule.pixels_of d.regions;
+      emitted = d.emitted;
+    })
+    no_counts
+
+-- what the answer to a call says, in these words
+pub record Answered (z : Lent) (o : Outcome) (r : Plan) : Type 0 where
+  pub number : number_of r ≡ call_number z o
+  pub position : position_of r ≡ call_position z o
+  pub counted : counts_of r ≡ call_counts z o
+  -- the same as one equation, which says too that what has a number is refused
+  pub plan : r ≡ answer_of z o
 
 -- ---- output
 -- the words of a draft; asked of accepted calls alone

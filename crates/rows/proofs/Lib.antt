@@ -1,2 +1,3 @@
 -- Laws of the definitions in specs/, for the crates above.
 pub mod Laws
+pub mod Values

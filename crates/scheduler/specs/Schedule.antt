@@ -1,7 +1,8 @@
 -- A schedule, as document 01's compositor.rs has it: "bands from the top, the last cut to the screen; in each" what `bands` says.
 -- "Counts: regions, and pixels as the sum of width times height".
-use Rattle.std.specs.Prelude.{◌≡◌, ℕ, zero, suc, ◌+◌, ◌-◌, ◌*◌, ◌/◌, ◌≤◌, ◌<◌, min, List, [], ◌∷◌, ◌++◌, leb, length, drop}
+use Rattle.std.specs.Prelude.{◌≡◌, ℕ, zero, suc, ◌+◌, ◌-◌, ◌*◌, ◌/◌, ◌≤◌, ◌<◌, min, List, [], ◌∷◌, ◌++◌, leb, length, drop, get_or}
 use Rattle.lists.specs.Pick.{pick}
+use Rattle.lists.specs.Tables.{tabulate}
 use Rattle.geometry.specs.declared.Rect.{Rect}
 use Rattle.device.specs.declared.DeviceRegion.{DeviceRegion}
 use Rattle.device.specs.Region.{area}
@@ -47,6 +48,13 @@ region_words r = r.x ∷ r.y ∷ r.width ∷ r.height ∷ []
 unfoldable pub words_of : List DeviceRegion → List ℕ
 words_of [] = []
 words_of (r ∷ l) = region_words r ++ words_of l
+
+-- region i of words that hold four a region, and the first n regions: the same, read back (`regions_back`)
+unfoldable pub region_in : List ℕ → ℕ → DeviceRegion
+region_in ws i = record { x = get_or ws (4 * i) 0; y = get_or ws (4 * i + 1) 0; width = get_or ws (4 * i + 2) 0; height = get_or ws (4 * i + 3) 0 }
+
+abbrev pub regions_to : List ℕ → ℕ → List DeviceRegion
+regions_to ws n = tabulate (region_in ws) n
 
 -- the answer: the counts where the regions fit, which is where there is room for four words each
 abbrev pub answer_of : List DeviceRegion → ℕ → Scheduled

@@ -3,14 +3,16 @@ use mathlib.Core.Path.{refl}
 use lib.Ieee.{lt, neg, div, of_int, of_bits, to_bits}
 use Rattle.floats.specs.Whole.{floor, ceil}
 use Rattle.floats.specs.Next.{next_down}
+use Rattle.geometry.specs.Boxes.{positive_area}
 use Rattle.device.specs.Region.{between}
+use Rattle.index_words.specs.Index.{stands_in, places, row_list, entries_to, start_of, starts_to, layout, index_words}
 use Rattle.changes.proofs.Examples.{cropped_fill}
 use Rattle.display_list.proofs.Examples.{stroke_box}
 use Rattle.schedule_laws.proofs.Examples.{touching_joined, apart_kept, higher_first}
 use Rattle.starred.specs.Starred.{Starred}
 
 pub starred : Starred
-unfolding floor ceil next_down between lt neg div of_int of_bits to_bits
+unfolding floor ceil next_down between positive_area index_words layout starts_to start_of entries_to row_list places stands_in lt neg div of_int of_bits to_bits
 starred = record {
   cropped = cropped_fill;
   rounded_outward = refl;
@@ -22,5 +24,9 @@ starred = record {
   ends_past_edge = refl;
   below_screen = (refl, refl);
   above_screen = (refl, refl);
+  ends_at_edge_words = refl;
+  ends_past_edge_words = refl;
+  below_screen_words = refl;
+  above_screen_words = refl;
   stroke_box = stroke_box;
 }

@@ -5,6 +5,7 @@ use Rattle.std.specs.Float.Ieee.{neg, div, of_bits, to_bits}
 use Rattle.geometry.specs.declared.Rect.{Rect}
 use Rattle.floats.specs.Whole.{whole}
 use Rattle.rows.specs.Rows.{row_count, row_of, final_row}
+use Rattle.index_words.specs.Index.{index_words}
 use Rattle.affine.specs.declared.Affine.{Affine}
 use Rattle.device.specs.declared.DeviceRegion.{DeviceRegion}
 use Rattle.device.specs.declared.Converted.TheVariants.{Region, Nothing}
@@ -59,6 +60,10 @@ first y = row_of 16 (row_count 40 16) y
 abbrev final : Float → ℕ
 final y = final_row 16 (row_count 40 16) y
 
+-- the index words there of one command that runs from y0 to y1: four starts, then its place, 0, in each row that it stands in
+abbrev indexed : Float → Float → List ℕ
+indexed y0 y1 = index_words 16 (row_count 40 16) (box (whole 0) y0 (whole 4) y1 ∷ [])
+
 -- the next f64 above 16
 abbrev above16 : Float
 above16 = of_bits binary64 (to_bits binary64 (whole 16) + 1)
@@ -84,5 +89,10 @@ pub record Starred : Type 0 where
   pub below_screen : (first (whole 100) ≡ 2) × (final (whole 120) ≡ 2)
   -- "y -8 to -2 in row 0"
   pub above_screen : (first (neg (whole 8)) ≡ 0) × (final (neg (whole 2)) ≡ 0)
+  -- the same four in the words of the index: row 0 alone; rows 0 and 1; row 2 alone; row 0 alone
+  pub ends_at_edge_words : indexed (whole 0) (whole 16) ≡ 0 ∷ 1 ∷ 1 ∷ 1 ∷ 0 ∷ []
+  pub ends_past_edge_words : indexed (whole 0) above16 ≡ 0 ∷ 1 ∷ 2 ∷ 2 ∷ 0 ∷ 0 ∷ []
+  pub below_screen_words : indexed (whole 100) (whole 120) ≡ 0 ∷ 0 ∷ 0 ∷ 1 ∷ 0 ∷ []
+  pub above_screen_words : indexed (neg (whole 8)) (neg (whole 2)) ≡ 0 ∷ 1 ∷ 1 ∷ 1 ∷ 0 ∷ []
   -- "Width 2, miter, limit 4, butt, box 10 10 20 20: 6 6 24 24"
   pub stroke_box : bounds stroked ≡ edges 6 6 24 24

@@ -2,7 +2,7 @@
 use mathlib.Core.List.{List}
 use Prim.Native.Nat.{ℕ, ◌+◌}
 use lib.Dec.{T}
-use lib.Ieee.{Float, binary32, binary64, of_bits}
+use lib.Ieee.{Float, binary32, binary64, fits, of_bits}
 use lib.Ieee.Bits.{of_bits-fits}
 use lib.Ieee.Scale.{finite}
 use Rattle.lists.proofs.Bools.{holds}
@@ -41,3 +41,14 @@ single_of n = pick_cases (λ (x : Float). T (finite x)) (finite (of_bits binary3
 
 pub single_finite : (s : List ℕ) (at : ℕ) → T (finite (f32_at s at))
 single_finite s at = single_of (u32_at s at)
+
+-- they are f32 too
+abbrev pub Single : Float → Type 0
+Single x = T (finite x) × T (fits binary32 x)
+
+pub single_zero : Single (of_bits binary32 0)
+single_zero = (zero_single, of_bits-fits binary32 0)
+
+pub single_at : (s : List ℕ) (at : ℕ) → Single (f32_at s at)
+unfolding finite_or
+single_at s at = pick_cases Single (finite (of_bits binary32 (u32_at s at))) (of_bits binary32 (u32_at s at)) (of_bits binary32 0) (λ e. (holds (finite (of_bits binary32 (u32_at s at))) e, of_bits-fits binary32 (u32_at s at))) (λ e. single_zero)

@@ -90,7 +90,8 @@ noted_numbers s l (Draw t at box) o h = record { clips = h.clips; commands = all
 noted_numbers s l (End t) o h = h
 noted_numbers s l (Refused n p) o h = h
 
-onward : (x : Step) → Kept (λ st. Unit {0}) (λ st. Unit {0}) x
+-- no step asks anything of the cursor
+pub onward : (x : Step) → Kept (λ st. Unit {0}) (λ st. Unit {0}) x
 onward (Next t) = tt
 onward (Clip t box) = tt
 onward (Pop t) = tt

@@ -48,7 +48,7 @@ pub run_count : (s : List ℕ) (at : ℕ) → get_or s at 0 ≡ 5 → at + 103 �
 unfolding command_at
 run_count s at is h = rw (is, length_run, le-leb (at + 103) (length s) h)
 
-no_count : (s : List ℕ) (at : ℕ) → (get_or s at 0 ≡ 5 → ⊥) → glyph_count (command_at s at) ≡ 0
+pub no_count : (s : List ℕ) (at : ℕ) → (get_or s at 0 ≡ 5 → ⊥) → glyph_count (command_at s at) ≡ 0
 unfolding command_at
 no_count s at other =
     pick_cases Z (leb (at + length_of (get_or s at 0)) (length s)) _ _

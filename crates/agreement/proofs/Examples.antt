@@ -1,0 +1,73 @@
+-- Worked examples, each by computing its definition: two inputs that agree and are not equal, and why run sizes count by their bits. Assumes nothing.
+use mathlib.Core.Path.{◌≡◌, refl}
+use mathlib.Core.Bool.{true, false}
+use mathlib.Core.List.{List, [], ◌∷◌, ◌++◌}
+use Prim.Native.Nat.{ℕ}
+use lib.ListN.{get_or}
+use lib.Ieee.{nan, binary32, of_bits}
+use Rattle.lists.specs.Places.{ByPlace}
+use Rattle.ieee.specs.Values.{zero_of}
+use Rattle.commands.specs.Bounds.{Command}
+use Rattle.equality.specs.Drawings.{equal}
+use Rattle.changes.specs.Changes.{changed_bounds}
+use Rattle.changes.proofs.Examples.{box, run, glyph, signed_size}
+use Rattle.rect_list.specs.Rects as Rects
+use Rattle.strip.specs.declared.Cursor.{Cursor}
+use Rattle.plans.specs.Drafts.{next_outcome}
+use Rattle.plans.specs.Space.{Lent}
+use Rattle.plans.specs.Answers.{rect_words}
+use Rattle.plans.proofs.Examples.{header, zero8, one8, two8, content, worked}
+use Rattle.agreement.specs.Agree.{agreeing}
+use Rattle.agreement.specs.Plans.{NextAgree, SamePlan}
+use Rattle.agreement.proofs.Plans.{same_by_value}
+
+-- ---- a square of 2 by 2 in the corner of the screen, which the new strip has no more. The zeros along x are 0, or -0.
+abbrev minus8 : List ℕ
+minus8 = 0 ∷ 0 ∷ 0 ∷ 0 ∷ 0 ∷ 0 ∷ 0 ∷ 128 ∷ []
+
+abbrev gone : List ℕ → List ℕ
+gone zero = header ++ (3 ∷ (content ++ zero ++ zero8 ++ two8 ++ two8 ++ one8 ++ zero8 ++ zero ++ one8 ++ zero ++ zero8 ++ content ++ (0 ∷ 0 ∷ [])))
+
+-- where the two strips end, whatever the zeros
+abbrev old : Cursor
+old = record { at = 110; depth = 0; clips = 0; commands = 1; glyphs = 0; due = 0; run = 12; united = record { x0 = zero_of false; y0 = zero_of false; x1 = zero_of false; y1 = zero_of false } }
+
+abbrev new : Cursor
+new = record { at = 111; depth = 0; clips = 0; commands = 0; glyphs = 0; due = 0; run = 0; united = record { x0 = zero_of false; y0 = zero_of false; x1 = zero_of false; y1 = zero_of false } }
+
+pub gone_agree : (z : Lent) → NextAgree z (gone zero8) (gone minus8) old new old new
+unfolding worked ByPlace agreeing
+gone_agree z = record { sizes = refl; read = refl; other_read = refl; old_commands = (refl, tt); new_commands = tt; clips = refl }
+
+-- the one rectangle begins at 0, or at -0; all else that the two inputs get is the same
+positive_edge : get_or (rect_words (next_outcome (gone zero8))) 0 nan ≡ zero_of false
+unfolding worked Rects.words_of
+positive_edge = refl
+
+negative_edge : get_or (rect_words (next_outcome (gone minus8))) 0 nan ≡ zero_of true
+unfolding worked Rects.words_of
+negative_edge = refl
+
+gone_planned : (z : Lent) → SamePlan z (next_outcome (gone zero8)) (next_outcome (gone minus8))
+gone_planned z = same_by_value.next z (gone zero8) (gone minus8) old new old new (gone_agree z)
+
+-- ---- a run of size 0, or -0, and of two glyphs, of which the second stands at a column
+abbrev sized : ℕ → ℕ → Command
+sized bits x = run (of_bits binary32 bits) (box 0 0 9 1) 2 (glyph 5 0 ∷ glyph 6 x ∷ [])
+
+-- they are equal by value, and do not agree
+sizes_equal : equal (sized 0 4) (sized 0x8000_0000 4) ≡ true
+unfolding worked
+sizes_equal = refl
+
+sizes_apart : agreeing (sized 0 4) (sized 0x8000_0000 4) ≡ false
+unfolding worked agreeing
+sizes_apart = refl
+
+-- since what changed from one and the same old run is the moved glyph for the one, and the whole run for the other
+moved_glyph : changed_bounds (sized 0 2) (sized 0 4) ≡ box 2 0 5 1 ∷ []
+unfolding worked
+moved_glyph = refl
+
+moved_run : changed_bounds (sized 0 2) (sized 0x8000_0000 4) ≡ box 0 0 5 1 ∷ []
+moved_run = signed_size

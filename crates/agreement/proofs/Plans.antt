@@ -1,0 +1,98 @@
+-- What agrees is planned alike, at either entry. Assumes nothing.
+use mathlib.Core.Path.{◌≡◌, refl, ap, subst}
+use mathlib.Core.Logic.{inl}
+use mathlib.Core.List.{List, [], ◌∷◌}
+use Prim.Native.Nat.{ℕ}
+use lib.ListN.{length, drop}
+use lib.Ieee.{Float}
+use Rattle.lists.specs.Places.{ByPlace}
+use Rattle.lists.proofs.Places.{place_none, place_one, place_length, place_append, place_self}
+use Rattle.ieee.specs.Values.{Same}
+use Rattle.geometry.proofs.Values.{SameBox, box_self}
+use Rattle.changes.specs.Changes.{diff_dirty}
+use Rattle.changes.proofs.Values.{diff_dirty_same}
+use Rattle.scheduler.specs.Schedule as Schedule
+use Rattle.strip.specs.declared.Cursor.{Cursor}
+use Rattle.strip.specs.Reading.{commands_of}
+use Rattle.frame.specs.declared.Header.{Header}
+use Rattle.frame.specs.declared.Header.TheVariants.{Sizes, BadHeader}
+use Rattle.frame.specs.declared.First.TheVariants.{One}
+use Rattle.frame.specs.declared.Pair.TheVariants.{Both}
+use Rattle.frame.specs.Frame.{header_of, first_of, both_of}
+use Rattle.plans.specs.declared.Plan.{Plan}
+use Rattle.plans.specs.declared.Plan.TheVariants.{Planned, Refused}
+use Rattle.plans.specs.Drafts.{Draft, draft, Items, Outcome, drafted, screen_rect, on_first, on_both, on_header, first_outcome, next_outcome}
+use Rattle.plans.specs.Space.{Lent}
+use Rattle.plans.specs.Answers.{items_fit, answer_of, rect_words, region_words, index_words, published}
+use Rattle.plans.proofs.Values.{SameDraft, draft_same, answer_same, rect_words_same}
+use Rattle.agreement.specs.Plans.{FirstAgree, NextAgree, SamePlan, SameByValue}
+use Rattle.agreement.proofs.Strips.{strips_matched}
+use Rattle.agreement.proofs.Counts.{items_of, items_of_both, first_room, next_room}
+
+-- drafts that only the signs of zero edges tell apart, with items that fit alike
+drafts_plan : (z : Lent) (i j : Items) (d e : Draft) → SameDraft d e → items_fit z i ≡ items_fit z j → SamePlan z (drafted i d) (drafted j e)
+drafts_plan z i j d e s r = record {
+  answer = answer_same d e s z i j r;
+  regions = ap Schedule.words_of s.regions;
+  index = s.words;
+  rects = rect_words_same d.rects e.rects s.rects;
+}
+
+-- headers of the same sizes, or one refusal
+module _ (z : Lent) (f g : ℕ → ℕ → ℕ → Outcome) (same : (w h b : ℕ) → SamePlan z (f w h b) (g w h b)) where
+  on_header_lem : (x : Header) → SamePlan z (on_header x f) (on_header x g)
+  on_header_lem (Sizes w h b) = same w h b
+  on_header_lem (BadHeader n) = record { answer = refl; regions = refl; index = refl; rects = place_none Same }
+
+  on_headers : (x y : Header) → x ≡ y → SamePlan z (on_header x f) (on_header y g)
+  on_headers x y e = subst (λ y. SamePlan z (on_header x f) (on_header y g)) e (on_header_lem x)
+
+-- ---- the two entries
+module _ (z : Lent) (s t : List ℕ) where
+  first_plans : (c d : Cursor) → FirstAgree z s t c d → SamePlan z (first_outcome s) (first_outcome t)
+  unfolding first_outcome
+  first_plans c d a = on_headers z (λ w h b. on_first w h b s (first_of s)) (λ w h b. on_first w h b t (first_of t)) (λ w h b. rw (a.read, a.other_read) (drafts w h b)) (header_of s) (header_of t) a.sizes
+    where
+      drafts : (w h b : ℕ) → SamePlan z (on_first w h b s (One c)) (on_first w h b t (One d))
+      drafts w h b =
+          let r = screen_rect w h ∷ [] in
+          drafts_plan z (items_of c) (items_of d) (draft w h b r (commands_of s 12)) (draft w h b r (commands_of t 12))
+          (draft_same w h b r r (commands_of s 12) (commands_of t 12) (place_one SameBox (screen_rect w h) (screen_rect w h) (box_self (screen_rect w h))) (strips_matched s t 12 12 a.commands))
+          (first_room z s t c d a)
+
+  next_plans : (old new old' new' : Cursor) → NextAgree z s t old new old' new' → SamePlan z (next_outcome s) (next_outcome t)
+  unfolding next_outcome
+  next_plans old new old' new' a = on_headers z (λ w h b. on_both w h b s (both_of s)) (λ w h b. on_both w h b t (both_of t)) (λ w h b. rw (a.read, a.other_read) (drafts w h b)) (header_of s) (header_of t) a.sizes
+    where
+      drafts : (w h b : ℕ) → SamePlan z (on_both w h b s (Both old new)) (on_both w h b t (Both old' new'))
+      drafts w h b =
+          let os = commands_of s 12 in
+          let os' = commands_of t 12 in
+          let ns = commands_of s old.at in
+          let ns' = commands_of t old'.at in
+          let p = strips_matched s t 12 12 a.old_commands in
+          let q = strips_matched s t old.at old'.at a.new_commands in
+          drafts_plan z (items_of_both old new) (items_of_both old' new') (draft w h b (diff_dirty os ns) ns) (draft w h b (diff_dirty os' ns') ns')
+          (draft_same w h b (diff_dirty os ns) (diff_dirty os' ns') ns ns' (diff_dirty_same os os' ns ns' p q) q)
+          (next_room z s t old new old' new' a)
+
+pub same_by_value : SameByValue
+same_by_value = record { first = first_plans; next = next_plans }
+
+-- ---- so every word of the output is the same over what stood there before, whether the calls are accepted or not, but for the sign of a zero edge
+module _ (z : Lent) (x y : Outcome) (p : SamePlan z x y) where
+  pub regions_published : (before : List ℕ) → published (answer_of z x) (region_words x) before ≡ published (answer_of z y) (region_words y) before
+  regions_published before = λ i. published (p.answer i) (p.regions i) before
+
+  pub index_published : (before : List ℕ) → published (answer_of z x) (index_words x) before ≡ published (answer_of z y) (index_words y) before
+  index_published before = λ i. published (p.answer i) (p.index i) before
+
+  pub rects_published : (before : List Float) → ByPlace Same (published (answer_of z x) (rect_words x) before) (published (answer_of z y) (rect_words y) before)
+  rects_published before = subst (λ a. ByPlace Same (published (answer_of z x) (rect_words x) before) (published a (rect_words y) before)) p.answer (over (answer_of z x) (rect_words x) (rect_words y) p.rects)
+    where
+      kept : (l : List Float) → ByPlace Same l l
+      kept = place_self Same (λ f. inl refl)
+
+      over : (a : Plan) (l m : List Float) → ByPlace Same l m → ByPlace Same (published a l before) (published a m before)
+      over (Planned r w k) l m h = place_append Same l (drop (length l) before) m (drop (length m) before) h (subst (λ n. ByPlace Same (drop (length l) before) (drop n before)) (place_length Same l m h) (kept (drop (length l) before)))
+      over (Refused n q) l m h = kept before

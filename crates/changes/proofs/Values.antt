@@ -1,0 +1,109 @@
+-- What changed is a function of values: of commands that match others, the changed boxes differ in the signs of zeros alone, place by place. Assumes nothing.
+use mathlib.Core.Path.{◌≡◌}
+use mathlib.Core.Bool.{true}
+use mathlib.Core.List.{List, [], ◌∷◌}
+use lib.Dec.{T}
+use lib.Ieee.Fits.{and_l, and_r}
+use Rattle.lists.specs.Pick.{pick}
+use Rattle.lists.specs.Places.{ByPlace}
+use Rattle.lists.proofs.Bools.{holds, is_true}
+use Rattle.lists.proofs.Places.{place_none, place_one, place_append, place_pick, place_with}
+use Rattle.lists.proofs.Relations.{Passes, per_same}
+use Rattle.geometry.specs.Boxes.{union, same_edges}
+use Rattle.geometry.proofs.Edges.{Ordered}
+use Rattle.geometry.proofs.Values.{SameBox, SameBoxes, edges_same, union_same}
+use Rattle.commands.specs.declared.Glyph.{Glyph}
+use Rattle.commands.specs.Bounds.{Command, bounds, glyph_bounds}
+use Rattle.commands.specs.Sizes.{size_of}
+use Rattle.commands.proofs.Values.{Floats}
+use Rattle.operand_equality.specs.Operands.{same_bits, same_glyph, equal_glyph}
+use Rattle.operand_equality.proofs.Compared.{per_glyph, glyphs_told}
+use Rattle.equality.specs.Drawings.{equal, fills_alike, runs_alike_clipped}
+use Rattle.equality.proofs.Values.{Good, equal_bounds, equal_glyph_bounds}
+use Rattle.equality.proofs.Compared.{equal_parts, equal_same, fills_same, runs_same}
+use Rattle.differences.specs.Differences.{rect_symmetric_difference}
+use Rattle.differences.proofs.Values.{symmetric_difference_same}
+use Rattle.changes.specs.Changes.{changed_glyphs, changed_bounds, diff_dirty}
+
+-- equal commands, run sizes by bits, whose floats are f64 and no NaN
+pub record Matched (c d : Command) : Type 0 where
+  pub equals : equal c d ≡ true
+  pub sizes : same_bits (size_of c.draw) (size_of d.draw) ≡ true
+  pub floats : Floats Good c
+  pub others : Floats Good d
+
+pub matched_bounds : (c d : Command) → Matched c d → SameBox (bounds c) (bounds d)
+matched_bounds c d m = equal_bounds c d m.floats m.others m.equals
+
+-- ---- glyphs: the same in id, x and y, with boxes that differ in the signs of zeros alone
+abbrev SameGlyphs : List Glyph → List Glyph → Type 0
+SameGlyphs gs hs = ByPlace (λ g h. T (same_glyph g h) × SameBox g.bounds h.bounds) gs hs
+
+matched_glyphs : (c d : Command) → Matched c d → SameGlyphs c.glyphs d.glyphs
+unfolding equal_glyph
+matched_glyphs c d m = place_with (Passes equal_glyph) (λ g. Ordered g.bounds) (λ g h. T (same_glyph g h) × SameBox g.bounds h.bounds)
+    (λ g h p q t. let s = same_glyph g h in let e = same_edges g.bounds h.bounds in (and_l s e t, edges_same g.bounds h.bounds p q (is_true e (and_r s e t))))
+    c.glyphs d.glyphs m.floats.glyphs m.others.glyphs (glyphs_told c.glyphs d.glyphs (equal_parts c d (holds _ m.equals)).glyphs)
+
+module _ (o o' n n' : Command) (p : Matched o o') (q : Matched n n') where
+  old_same : (g g' : Glyph) → SameBox g.bounds g'.bounds → SameBox (glyph_bounds o g) (glyph_bounds o' g')
+  old_same = equal_glyph_bounds o o' p.floats p.others p.equals
+
+  new_same : (h h' : Glyph) → SameBox h.bounds h'.bounds → SameBox (glyph_bounds n h) (glyph_bounds n' h')
+  new_same = equal_glyph_bounds n n' q.floats q.others q.equals
+
+  changed_glyphs_same : (gs gs' hs hs' : List Glyph) → SameGlyphs gs gs' → SameGlyphs hs hs' → SameBoxes (changed_glyphs o gs n hs) (changed_glyphs o' gs' n' hs')
+  unfolding changed_glyphs ByPlace
+  changed_glyphs_same [] (g' ∷ gs') hs hs' a b = absurd a
+  changed_glyphs_same (g ∷ gs) [] hs hs' a b = absurd a
+  changed_glyphs_same [] [] [] [] a b = tt
+  changed_glyphs_same [] [] [] (h' ∷ hs') a b = absurd b
+  changed_glyphs_same [] [] (h ∷ hs) [] a b = absurd b
+  changed_glyphs_same [] [] (h ∷ hs) (h' ∷ hs') a b = (new_same h h' b.0.1, changed_glyphs_same [] [] hs hs' a b.1)
+  changed_glyphs_same (g ∷ gs) (g' ∷ gs') [] (h' ∷ hs') a b = absurd b
+  changed_glyphs_same (g ∷ gs) (g' ∷ gs') (h ∷ hs) [] a b = absurd b
+  changed_glyphs_same (g ∷ gs) (g' ∷ gs') [] [] a b = (old_same g g' a.0.1, changed_glyphs_same gs gs' [] [] a.1 b)
+  changed_glyphs_same (g ∷ gs) (g' ∷ gs') (h ∷ hs) (h' ∷ hs') a b =
+      let u = union (glyph_bounds o g) (glyph_bounds n h) in
+      let v = union (glyph_bounds o' g') (glyph_bounds n' h') in
+      place_append SameBox (pick (same_glyph g h) [] (u ∷ [])) (changed_glyphs o gs n hs) (pick (same_glyph g' h') [] (v ∷ [])) (changed_glyphs o' gs' n' hs')
+      (place_pick SameBox (same_glyph g h) (same_glyph g' h') [] (u ∷ []) [] (v ∷ []) (per_same same_glyph per_glyph g g' h h' a.0.0 b.0.0) tt
+      (union_same (glyph_bounds o g) (glyph_bounds o' g') (glyph_bounds n h) (glyph_bounds n' h') (old_same g g' a.0.1) (new_same h h' b.0.1), tt))
+      (changed_glyphs_same gs gs' hs hs' a.1 b.1)
+
+  -- ---- two commands
+  pub changed_bounds_same : SameBoxes (changed_bounds o n) (changed_bounds o' n')
+  unfolding changed_bounds
+  changed_bounds_same =
+      let a = matched_bounds o o' p in
+      let b = matched_bounds n n' q in
+      let e = holds (equal o o') p.equals in
+      let f = holds (equal n n') q.equals in
+      let ds = rect_symmetric_difference (bounds o) (bounds n) in
+      let ds' = rect_symmetric_difference (bounds o') (bounds n') in
+      let gs = changed_glyphs o o.glyphs n n.glyphs in
+      let gs' = changed_glyphs o' o'.glyphs n' n'.glyphs in
+      let us = union (bounds o) (bounds n) ∷ [] in
+      let us' = union (bounds o') (bounds n') ∷ [] in
+      let rs = pick (runs_alike_clipped o n) gs us in
+      let rs' = pick (runs_alike_clipped o' n') gs' us' in
+      place_pick SameBox (equal o n) (equal o' n') [] (pick (fills_alike o.draw n.draw) ds rs) [] (pick (fills_alike o'.draw n'.draw) ds' rs') (equal_same o o' n n' e f) (place_none SameBox)
+      (place_pick SameBox (fills_alike o.draw n.draw) (fills_alike o'.draw n'.draw) ds rs ds' rs' (fills_same o o' n n' e f) (symmetric_difference_same (bounds o) (bounds o') (bounds n) (bounds n') a b)
+      (place_pick SameBox (runs_alike_clipped o n) (runs_alike_clipped o' n') gs us gs' us' (runs_same o o' n n' e f (holds _ p.sizes) (holds _ q.sizes))
+      (changed_glyphs_same o.glyphs o'.glyphs n.glyphs n'.glyphs (matched_glyphs o o' p) (matched_glyphs n n' q))
+      (place_one SameBox (union (bounds o) (bounds n)) (union (bounds o') (bounds n')) (union_same (bounds o) (bounds o') (bounds n) (bounds n') a b))))
+
+-- ---- lists
+pub diff_dirty_same : (os os' ns ns' : List Command) → ByPlace Matched os os' → ByPlace Matched ns ns' → SameBoxes (diff_dirty os ns) (diff_dirty os' ns')
+unfolding diff_dirty ByPlace
+diff_dirty_same [] (o' ∷ os') ns ns' a b = absurd a
+diff_dirty_same (o ∷ os) [] ns ns' a b = absurd a
+diff_dirty_same [] [] [] [] a b = tt
+diff_dirty_same [] [] [] (n' ∷ ns') a b = absurd b
+diff_dirty_same [] [] (n ∷ ns) [] a b = absurd b
+diff_dirty_same [] [] (n ∷ ns) (n' ∷ ns') a b = (matched_bounds n n' b.0, diff_dirty_same [] [] ns ns' a b.1)
+diff_dirty_same (o ∷ os) (o' ∷ os') [] (n' ∷ ns') a b = absurd b
+diff_dirty_same (o ∷ os) (o' ∷ os') (n ∷ ns) [] a b = absurd b
+diff_dirty_same (o ∷ os) (o' ∷ os') [] [] a b = (matched_bounds o o' a.0, diff_dirty_same os os' [] [] a.1 b)
+diff_dirty_same (o ∷ os) (o' ∷ os') (n ∷ ns) (n' ∷ ns') a b =
+    place_append SameBox (changed_bounds o n) (diff_dirty os ns) (changed_bounds o' n') (diff_dirty os' ns') (changed_bounds_same o o' n n' a.0 b.0) (diff_dirty_same os os' ns ns' a.1 b.1)

@@ -1,0 +1,104 @@
+-- Every region of an accepted call has one row, in whatever words begin with the plan's. Assumes nothing.
+use mathlib.Core.Path.{◌≡◌, refl, sym, ap, ◌∙◌, subst}
+use mathlib.Core.Bool.{Bool, true, true≢false}
+use mathlib.Core.List.{List, ◌∷◌, [], ◌++◌, map}
+use mathlib.Core.Option.{Option, none, some}
+use Prim.Native.Nat.{ℕ, ◌/◌, ◌<◌}
+use native.Mathlib.Omega.{arith}
+use lib.ListN.{length, drop}
+use Rattle.lists.specs.Members.{All}
+use Rattle.lists.proofs.Members.{all_map}
+use Rattle.little_endian.specs.Words.{u32_at}
+use Rattle.geometry.specs.declared.Rect.{Rect}
+use Rattle.commands.specs.Bounds.{bounds}
+use Rattle.device.specs.declared.DeviceRegion.{DeviceRegion}
+use Rattle.rows.specs.Rows.{row_count}
+use Rattle.index_words.specs.Index.{row_list, index_words}
+use Rattle.changes.specs.Changes.{diff_dirty}
+use Rattle.candidates.specs.Table.{candidates, refusal}
+use Rattle.candidates.proofs.Plans.{plan_accepted, plan_row}
+use Rattle.scheduler.specs.Schedule.{Sizes, schedule}
+use Rattle.painting.proofs.Schedules.{width_size, height_size, band_size}
+use Rattle.schedule_laws.specs.Placed.{Placed}
+use Rattle.schedule_laws.proofs.Boxes.{boxes_schedulable}
+use Rattle.strip.specs.Reading.{commands_of}
+use Rattle.frame.specs.declared.First.{First}
+use Rattle.frame.specs.declared.First.TheVariants.{One, NotOne}
+use Rattle.frame.specs.declared.Pair.{Pair}
+use Rattle.frame.specs.declared.Pair.TheVariants.{Both, NotBoth}
+use Rattle.frame.specs.Frame.{first_of, both_of}
+use Rattle.plans.specs.Drafts.{Outcome, turned, drafted, screen_rect, on_first, on_both, first_outcome, next_outcome}
+use Rattle.plans.specs.Space.{Slices, Lent, lent_of}
+use Rattle.plans.specs.Answers.{answer_of, accepted, published, index_words as words_of}
+use Rattle.panels.specs.Entries.{call_of, regions_of, entries}
+use Rattle.panels.specs.Rows.{RowAlike, SameRows}
+use Rattle.panels.proofs.Entries.{by_header, words_behind}
+
+module _ (header : List ℕ) (twelve : length header ≡ 12) where
+  abbrev w : ℕ
+  w = u32_at header 0
+
+  abbrev h : ℕ
+  h = u32_at header 4
+
+  abbrev b : ℕ
+  b = u32_at header 8
+
+  -- the regions are a schedule and the words an index, whatever the old bytes are
+  record Drawn (x : Outcome) : Type 0 where
+    sizes : Sizes w h b
+    rects : List Rect
+    boxes : List Rect
+    regions_are : regions_of x ≡ schedule w h b rects
+    words_are : words_of x ≡ index_words b (row_count h b) boxes
+
+  abbrev WhereDrawn : Outcome → Type 0
+  WhereDrawn (turned n p) = Unit {0}
+  WhereDrawn (drafted i d) = Drawn (drafted i d)
+
+  first_drawn : Sizes w h b → (s : List ℕ) (x : First) → WhereDrawn (on_first w h b s x)
+  first_drawn z s (One new) = record { sizes = z; rects = screen_rect w h ∷ []; boxes = map bounds (commands_of s 12); regions_are = refl; words_are = refl }
+  first_drawn z s (NotOne n p) = tt
+
+  both_drawn : Sizes w h b → (s : List ℕ) (x : Pair) → WhereDrawn (on_both w h b s x)
+  both_drawn z s (Both old new) = record {
+    sizes = z;
+    rects = diff_dirty (commands_of s 12) (commands_of s old.at);
+    boxes = map bounds (commands_of s old.at);
+    regions_are = refl;
+    words_are = refl;
+  }
+  both_drawn z s (NotBoth n p) = tt
+
+  call_drawn : (last : Option (List ℕ)) (s : List ℕ) → WhereDrawn (call_of header last s)
+  unfolding first_outcome next_outcome
+  call_drawn none s =
+      by_header header twelve WhereDrawn s (λ w h b. on_first w h b (header ++ s) (first_of (header ++ s))) (λ n. tt) (λ z. first_drawn z (header ++ s) (first_of (header ++ s)))
+  call_drawn (some old) s =
+      by_header header twelve WhereDrawn (old ++ s) (λ w h b. on_both w h b (header ++ (old ++ s)) (both_of (header ++ (old ++ s)))) (λ n. tt)
+      (λ z. both_drawn z (header ++ (old ++ s)) (both_of (header ++ (old ++ s))))
+
+  drawn : (z : Lent) (x : Outcome) → WhereDrawn x → accepted (answer_of z x) ≡ true → Drawn x
+  drawn z (turned n p) m e = absurd (true≢false (sym e))
+  drawn z (drafted i d) m e = m
+
+  module _ (x : Outcome) (m : Drawn x) (rest others tail : List ℕ) (whole : others ≡ words_of x ++ tail) where
+    row_alike : (r : DeviceRegion) → Placed w h b r → RowAlike header (words_of x ++ rest) others r
+    row_alike r p =
+        let y : r.y < h = omega (arith, p.on.some_height, p.on.down) in
+        let row : (t : List ℕ) → candidates w h b r.y (words_of x ++ t) ≡ row_list b (row_count h b) m.boxes (r.y / b)
+        = λ t. ap (λ (l : List ℕ). candidates w h b r.y (l ++ t)) m.words_are ∙ plan_row w h b r.y m.boxes t (width_size m.sizes) (height_size m.sizes) (band_size m.sizes) y in
+        record {
+          answered = ap (λ (l : List ℕ). refusal w h b r.y (l ++ rest)) m.words_are ∙ plan_accepted w h b r.y m.boxes rest (width_size m.sizes) (height_size m.sizes) (band_size m.sizes) y;
+          alike = row rest ∙ sym (row tail) ∙ ap (candidates w h b r.y) (sym whole);
+        }
+
+    rows_alike : All (RowAlike header (words_of x ++ rest) others) (regions_of x)
+    rows_alike = all_map (Placed w h b) (RowAlike header (words_of x ++ rest) others) row_alike (regions_of x)
+        (subst (All (Placed w h b)) (sym m.regions_are) (boxes_schedulable m.sizes m.rects).placed)
+
+pub same_rows : SameRows
+same_rows header twelve last s z e rest =
+    let x = call_of header last s in
+    rows_alike header twelve x (drawn header twelve (lent_of z) x (call_drawn header twelve last s) e) rest _ (drop (length (words_of x)) z.words)
+    (words_behind header twelve (answer_of (lent_of z) x) (words_of x) z.words e)

@@ -1,0 +1,49 @@
+-- From an entry's contract to the planner of which crate `panels` speaks. Assumes nothing.
+use mathlib.Core.Path.{◌≡◌, refl, sym, ap, ◌∙◌, subst}
+use mathlib.Core.Bool.{Bool, true, false, ◌&&◌, true≢false}
+use mathlib.Core.List.{List, ◌++◌}
+use mathlib.Core.Option.{Option, none, some}
+use Prim.Native.Nat.{ℕ}
+use lib.ListN.{length, drop}
+use Rattle.lists.specs.Pick.{pick}
+use Rattle.scheduler.specs.Schedule.{words_of, regions_to}
+use Rattle.scheduler.proofs.Reading.{regions_back}
+use Rattle.plans.specs.declared.Plan.{Plan}
+use Rattle.plans.specs.declared.Plan.TheVariants.{Planned, Refused}
+use Rattle.plans.specs.Drafts.{Draft, Outcome, turned, drafted, first_outcome, next_outcome}
+use Rattle.plans.specs.Space.{Slices, Lent, lent_of}
+use Rattle.plans.specs.Answers.{items_fit, draft_fits, counts, answer_of, accepted, counts_of, region_words, index_words, published}
+use Rattle.panels.specs.Entries.{call_of, regions_of, entries}
+use Rattle.panels_calls.specs.Calls.{Called, CalledFirst, CalledNext}
+
+-- an accepted answer is a plan with the counts of its draft
+planned : (t : Bool) (d : Draft) → accepted (pick t (counts d) (Refused 10 0)) ≡ true → pick t (counts d) (Refused 10 0) ≡ counts d
+planned true d e = refl
+planned false d e = absurd (true≢false (sym e))
+
+-- the regions that an accepted call leaves in their slice, read back
+regions_left : (z : Lent) (x : Outcome) (old : List ℕ) → accepted (answer_of z x) ≡ true → regions_to (published (answer_of z x) (region_words x) old) (counts_of (answer_of z x)).regions ≡ regions_of x
+regions_left z (turned n p) old e = absurd (true≢false (sym e))
+regions_left z (drafted i d) old e =
+    ap (λ (p : Plan). regions_to (published p (words_of d.regions) old) (counts_of p).regions) (planned (items_fit z i && draft_fits z d) d e)
+    ∙ regions_back d.regions (drop (length (words_of d.regions)) old)
+
+module _ (header : List ℕ) (last : Option (List ℕ)) (s : List ℕ) (before after : Slices) (r : Plan) where
+  called : (x : Outcome) → x ≡ call_of header last s → r ≡ answer_of (lent_of before) x → after.regions ≡ published r (region_words x) before.regions → after.words ≡ published r (index_words x) before.words → Called header last s before after r
+  called x q a g k =
+      let e : r ≡ answer_of (lent_of before) (call_of header last s) = a ∙ ap (answer_of (lent_of before)) q in
+      record {
+        accepts = ap accepted e;
+        regions = λ t.
+            (λ j. regions_to (g j) (counts_of r).regions)
+            ∙ (λ j. regions_to (published (e j) (region_words (q j)) before.regions) (counts_of (e j)).regions)
+            ∙ regions_left (lent_of before) (call_of header last s) before.regions (sym (ap accepted e) ∙ t);
+        words = k ∙ (λ j. published (e j) (index_words (q j)) before.words);
+      }
+
+module _ (input : List ℕ) (before after : Slices) (r : Plan) where
+  pub first_called : r ≡ answer_of (lent_of before) (first_outcome input) → after.regions ≡ published r (region_words (first_outcome input)) before.regions → after.words ≡ published r (index_words (first_outcome input)) before.words → CalledFirst input before after r
+  first_called a g k header s e = called header none s before after r (first_outcome input) (ap first_outcome e) a g k
+
+  pub next_called : r ≡ answer_of (lent_of before) (next_outcome input) → after.regions ≡ published r (region_words (next_outcome input)) before.regions → after.words ≡ published r (index_words (next_outcome input)) before.words → CalledNext input before after r
+  next_called a g k header old s e = called header (some old) s before after r (next_outcome input) (ap next_outcome e) a g k

@@ -1,0 +1,2 @@
+-- What an entry's contract says is what crate `panels` speaks of.
+pub mod Calls
