@@ -1,4 +1,4 @@
--- The next lower f64 ("next lower f64 of y1"): IEEE 754's next_down, by bit patterns.
+-- The next lower f64 ("next lower f64 of y1"): IEEE 754's nextDown, by bit patterns.
 use Rattle.std.specs.Prelude.{zero, suc, ◌+◌, ◌-◌, true, false, from_bits, to_bits, Float}
 use Rattle.std.specs.Float.{nan, inf, fin, binary64}
 

@@ -4,7 +4,7 @@ ghost use Rattle.strip.specs.Reading as Reading;
 
 use crate::{Answer, Cursor};
 
-#[derive(Drop)]
+#[derive(Clone, Copy)]
 pub struct Reader<'a> {
     pub src: &'a [u8],
     pub at: usize,
