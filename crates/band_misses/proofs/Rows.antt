@@ -1,10 +1,10 @@
 -- The rows of a converted box lie between its rounded edges, and an edge against a whole number is its rounding against it. Assumes nothing.
-use Rattle.std.proofs.Common.{◌≡◌, ℕ, ◌+◌, ◌-◌, ◌*◌, ◌^◌, ◌<◌, ◌≤◌, min, max, Bool, true, false, ◌&&◌, T, ltb, sym, refl, ap, ◌∙◌, subst, le_trans, le_of_eq, arith, ltb→lt, ltb-false}
+use Rattle.std.proofs.Common.{◌≡◌, ℕ, ◌-◌, ◌^◌, ◌<◌, ◌≤◌, min, max, Bool, true, false, ◌&&◌, T, ltb, sym, refl, ap, ◌∙◌, subst, le_trans, le_of_eq, arith, ltb→lt, ltb-false}
 use mir.Val.{bool_byte}
 use lib.Ieee.Fits.{and_r}
 use lib.Ieee.{Float, nan, inf, fin, binary64, fits, lt, le}
 use Rattle.lists.specs.Pick.{pick}
-use Rattle.ieee.proofs.Rank.{rank, ordered, middle, unit, ordered_of, le_not_nan, le_rank, whole_ordered, rank_whole}
+use Rattle.ieee.proofs.Rank.{rank, ordered_of, le_not_nan, le_rank, whole_ordered, rank_whole}
 use Rattle.floats.specs.Whole.{whole, floor, ceil}
 use Rattle.floats.proofs.Wholes.{whole_ceil, floor_at_least}
 use Rattle.geometry.specs.declared.Rect.{Rect}

@@ -1,8 +1,8 @@
 -- What the schedule and the index answer makes the answer to the draft, and their words stand where it is accepted. Assumes nothing.
 use mathlib.Core.Path.{◌≡◌, refl, sym, ap, ◌∙◌, subst}
 use mathlib.Core.Bool.{Bool, true, false, ◌&&◌}
-use mathlib.Core.List.{List, ◌++◌}
-use Prim.Native.Nat.{ℕ, ◌+◌, ◌*◌, ◌-◌, ◌≤◌, ◌<◌}
+use mathlib.Core.List.{List}
+use Prim.Native.Nat.{ℕ, ◌*◌, ◌-◌, ◌≤◌, ◌<◌}
 use native.Mathlib.Omega.{arith}
 use lib.Dec.{leb}
 use lib.ListN.{length, take, drop, length-drop}
@@ -12,11 +12,10 @@ use borrow.Author.Tests.{le-leb, lt-leb, leb-true, leb-false}
 use Rattle.lists.specs.Pick.{pick}
 use Rattle.runtime.specs.declared.FrameWork.{FrameWork}
 use Rattle.runtime.specs.Work.{work_of}
-use Rattle.device.specs.declared.DeviceRegion.{DeviceRegion}
 use Rattle.bands.specs.Bands.{rects_to}
 use Rattle.scheduler.specs.declared.Scheduled.{Scheduled}
 use Rattle.scheduler.specs.declared.Scheduled.TheVariants.{Regions, Full}
-use Rattle.scheduler.specs.Schedule.{schedule, pixels_of, Answers}
+use Rattle.scheduler.specs.Schedule.{schedule, Answers}
 use Rattle.scheduler.proofs.Outcomes.{Listed, answered, refused, front_words}
 use Rattle.band_index.specs.declared.Built.{Built}
 use Rattle.band_index.specs.declared.Built.TheVariants.{Words, Full as NoRoom}
@@ -25,8 +24,8 @@ use Rattle.band_index.proofs.Answers.{stored_front}
 use Rattle.plans.specs.declared.Plan.{Plan}
 use Rattle.plans.specs.declared.Plan.TheVariants.{Planned, Refused}
 use Rattle.plans.specs.Drafts.{Draft}
-use Rattle.plans.specs.Answers.{draft_fits, counts, accepted}
-use Rattle.drafting.specs.Drafted.{draft_in, rooms, judged, indexed, Stands, StandsIf}
+use Rattle.plans.specs.Answers.{draft_fits, accepted}
+use Rattle.drafting.specs.Drafted.{draft_in, rooms, judged, indexed, StandsIf}
 use Rattle.drafting.proofs.Words.{rects_length, rects_words}
 
 -- ---- the index

@@ -1,5 +1,5 @@
 -- A draft in scratch: its rectangles stand in `rs`, the boxes of the new strip's commands in `ibs` from place `first` on.
-use Rattle.std.specs.Prelude.{◌≡◌, true, List, ℕ, ◌+◌, ◌*◌, ◌/◌, ◌≤◌, leb, length, take, drop, Float}
+use Rattle.std.specs.Prelude.{◌≡◌, true, List, ℕ, ◌+◌, ◌*◌, ◌≤◌, leb, length, take, drop, Float}
 use Rattle.lists.specs.Pick.{pick}
 use Rattle.rows.specs.Rows.{row_count}
 use Rattle.rect_list.specs.Rects as Rects

@@ -1,6 +1,6 @@
 -- What lent space holds of the strips that were read, where their items fit: the counts are small, and the boxes of the new commands stand in a row.
 -- Assumes nothing.
-use Rattle.std.proofs.Common.{◌≡◌, ℕ, zero, suc, ◌+◌, ◌*◌, ◌/◌, ◌<◌, ◌≤◌, min, Bool, true, false, ◌&&◌, ltb, leb, List, [], ◌∷◌, map, length, get_or, drop, sym, refl, ap, ◌∙◌, subst, arith, get_or-drop, leb-true}
+use Rattle.std.proofs.Common.{◌≡◌, ℕ, zero, suc, ◌+◌, ◌*◌, ◌/◌, ◌<◌, min, true, ◌&&◌, ltb, leb, List, [], ◌∷◌, map, length, get_or, drop, sym, refl, ap, ◌∙◌, subst, arith, get_or-drop, leb-true}
 use lib.Ieee.{Float, nan}
 use lib.Ieee.Fits.{and_l, and_r}
 use Rattle.lists.proofs.Bools.{holds, is_true}
@@ -8,7 +8,6 @@ use Rattle.lists.proofs.Picks.{pick_cases}
 use Rattle.geometry.specs.declared.Rect.{Rect}
 use Rattle.rect_words.specs.Words.{rect_at}
 use Rattle.commands.specs.Bounds.{Command, bounds}
-use Rattle.display_list.specs.Lists.{box_at}
 use Rattle.strip.specs.declared.Cursor.{Cursor}
 use Rattle.strip.specs.declared.Answer.{Answer}
 use Rattle.strip.specs.declared.Answer.TheVariants.{Read, Refused}

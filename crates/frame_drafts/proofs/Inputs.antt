@@ -1,5 +1,5 @@
 -- Each answer of the functions that draft a whole input. Assumes nothing.
-use Rattle.std.proofs.Common.{◌≡◌, ℕ, ◌+◌, ◌*◌, ◌^◌, ◌<◌, ◌≤◌, Bool, true, false, ◌&&◌, eqb, ltb, leb, List, [], ◌∷◌, length, sym, refl, ap, ◌∙◌, subst, arith, w64, Fits, eqb-true, leb-true}
+use Rattle.std.proofs.Common.{◌≡◌, ℕ, ◌+◌, ◌*◌, ◌<◌, ◌≤◌, Bool, true, false, ◌&&◌, eqb, ltb, leb, List, [], ◌∷◌, length, sym, refl, ap, ◌∙◌, subst, arith, w64, Fits, leb-true}
 use lib.Ieee.{Float, binary64, of_bits, of_int}
 use lib.Ieee.Fits.{and_l, and_r}
 use borrow.Author.Tests.{eqb-false}
@@ -26,8 +26,8 @@ use Rattle.frame.specs.Frame.{size_fits, header_of, first_of, both_of}
 use Rattle.stored_lists.specs.Stored.{commands_in, Stored}
 use Rattle.recording.specs.Recorded.{Space, SameLengths, Room, Holds, Two, RecordsFirst, RecordsBoth}
 use Rattle.plans.specs.declared.Plan.{Plan}
-use Rattle.plans.specs.declared.Plan.TheVariants.{Planned, Refused}
-use Rattle.plans.specs.Drafts.{draft, Items, Outcome, turned, drafted, screen_rect, on_first, on_both, on_header, first_outcome, next_outcome}
+use Rattle.plans.specs.declared.Plan.TheVariants.{Refused}
+use Rattle.plans.specs.Drafts.{Items, Outcome, screen_rect, on_first, on_both, first_outcome, next_outcome}
 use Rattle.plans.specs.Space.{Lent}
 use Rattle.plans.specs.Answers.{items_fit, answer_of}
 use Rattle.drafting.specs.Drafted.{draft_in, rooms, judged, StandsIf, Ready}

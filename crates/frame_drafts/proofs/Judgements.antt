@@ -1,38 +1,25 @@
 -- The answer to a whole input: refused by its bytes, by its items, or as the draft is judged. Assumes nothing.
-use Rattle.std.proofs.Common.{◌≡◌, ℕ, ◌+◌, ◌*◌, ◌/◌, ◌<◌, ◌≤◌, min, Bool, true, false, ◌&&◌, leb, List, [], ◌∷◌, map, length, take, drop, sym, refl, ap, ◌∙◌, subst, arith, le-leb}
-use lib.Ieee.{Float, binary64, of_bits}
+use Rattle.std.proofs.Common.{◌≡◌, ℕ, ◌*◌, ◌/◌, ◌<◌, ◌≤◌, min, Bool, true, false, leb, List, map, length, take, drop, sym, ap, ◌∙◌, subst, arith, le-leb}
+use lib.Ieee.{Float}
 use borrow.Author.Tests.{lt-leb}
 use Rattle.lists.specs.Pick.{pick}
 use Rattle.lists.proofs.Picks.{by_le}
-use Rattle.floats.specs.Whole.{whole}
 use Rattle.geometry.specs.declared.Rect.{Rect}
 use Rattle.commands.specs.Bounds.{Command, bounds}
 use Rattle.rows.specs.Rows.{row_count}
 use Rattle.index_words.specs.Index.{index_words}
-use Rattle.rect_list.specs.Rects.{Added, Listed}
-use Rattle.rect_list.proofs.Appends.{listed}
+use Rattle.rect_list.specs.Rects.{Listed}
 use Rattle.bands.specs.Bands.{rects_to}
-use Rattle.scheduler.specs.Schedule.{Sizes, schedule}
+use Rattle.scheduler.specs.Schedule.{schedule}
 use Rattle.band_index.specs.Boxes.{boxes_of}
-use Rattle.changes.specs.Changes.{diff_dirty}
-use Rattle.strip.specs.declared.Cursor.{Cursor}
-use Rattle.strip.specs.Reading.{commands_of}
-use Rattle.frame.specs.declared.First.{First}
-use Rattle.frame.specs.declared.First.TheVariants.{One, NotOne}
-use Rattle.frame.specs.declared.Pair.{Pair}
-use Rattle.frame.specs.declared.Pair.TheVariants.{Both, NotBoth}
-use Rattle.frame.specs.Frame.{first_of, both_of}
-use Rattle.stored_lists.specs.Stored.{commands_in, Stored}
-use Rattle.recording.specs.Recorded.{Space, SameLengths, Room, Two, RecordsFirst, RecordsBoth}
 use Rattle.plans.specs.declared.Plan.{Plan}
-use Rattle.plans.specs.declared.Plan.TheVariants.{Planned, Refused}
-use Rattle.plans.specs.Drafts.{Draft, draft, Items, Outcome, turned, drafted, screen_rect, on_first, on_both}
+use Rattle.plans.specs.declared.Plan.TheVariants.{Refused}
+use Rattle.plans.specs.Drafts.{Draft, draft, Items, drafted, screen_rect}
 use Rattle.plans.specs.Space.{Lent}
-use Rattle.plans.specs.Answers.{items_fit, draft_fits, counts, accepted, answer_of}
-use Rattle.drafting.specs.Drafted.{draft_in, rooms, judged, StandsIf, Ready}
+use Rattle.plans.specs.Answers.{items_fit, draft_fits, accepted, answer_of}
+use Rattle.drafting.specs.Drafted.{draft_in, rooms, judged, StandsIf}
 use Rattle.drafting.proofs.Words.{rects_length, rects_back}
-use Rattle.frame_drafts.specs.Scratch.{lent, Roomy, StandsFor}
-use Rattle.frame_drafts.proofs.Holdings.{first_within, both_within, items_same, items_room, list_length, stored_boxes}
+use Rattle.frame_drafts.specs.Scratch.{lent}
 
 pub untrue : {P : Type 0} → false ≡ true → P
 untrue e = let z : ◌≡◌ {A = ℕ} 0 1 = ap (λ (b : Bool). pick b 1 0) e in absurd (omega arith)

@@ -1,14 +1,14 @@
 -- Products and sums of numbers that are not too large are finite: what is at most 2 ^ k rounds to at most four times that, so a few operations on numbers
 -- below 2 ^ 500 stay far below 2 ^ 1024. Assumes nothing.
 use mathlib.Core.Path.{◌≡◌, refl, sym, ap, ◌∙◌, subst}
-use mathlib.Core.Bool.{Bool, true, false, not, ◌&&◌, beq, cond, true≢false}
+use mathlib.Core.Bool.{Bool, true, false, ◌&&◌, beq, cond, true≢false}
 use Prim.Native.Nat.{ℕ, zero, suc, ◌+◌, ◌-◌, ◌*◌, ◌/◌, ◌%◌, ◌^◌, ◌≤◌, ◌<◌, compare}
 use native.Mathlib.Nat.{le_trans, le_of_eq, le_of_lt, lt_of_le_of_lt, mul-one, mul_comm, mul_assoc, mul_left_comm, mul_right_comm, mul-pos, mul-le-mul, mul-le-mul_right, le_of_mul-le-mul_right, div-mul-le_self, div-div-eq-div-mul, suc-mul, two-mul, pow-succ'}
 use native.Mathlib.Omega.{arith}
 use lib.Dec.{leb, ltb, eqb}
 use borrow.Author.Tests.{ne_eqb}
 use lib.Pow.{pow-add, pow_pos, pow_mono, pow-lt}
-use lib.Ieee.{Float, nan, inf, fin, binary64, up, down, size, unlike, odd, units, round, sum, add, mul, of_bits, of_fields}
+use lib.Ieee.{Float, nan, inf, fin, binary64, up, down, size, unlike, odd, round, sum, add, mul, of_bits, of_fields}
 use lib.Ieee.Digits.{size_reaches}
 use lib.Ieee.Fits.{nearest-le, round_is, down_pos}
 use lib.Ieee.Exact.{HasValue, odd_sign, units_val}

@@ -1,14 +1,12 @@
 -- Operands past the end are all 0, and pass. Assumes nothing.
 use Prim.Native.Nat.{ℕ, zero, suc, ◌+◌, ◌≤◌}
 use mathlib.Core.List.{List}
-use mathlib.Core.Path.{◌≡◌, refl, ap, ◌∙◌}
+use mathlib.Core.Path.{◌≡◌, refl, ap}
 use mathlib.Core.Bool.{true}
 use native.Mathlib.Omega.{arith}
-use lib.Dec.{eqb}
-use lib.Ieee.{binary32, binary64, of_bits}
+use lib.Ieee.{binary32, of_bits}
 use lib.Ieee.Scale.{finite}
 use lib.ListN.{length, get_or}
-use Rattle.lists.specs.Pick.{pick}
 use Rattle.lists.proofs.Picks.{pick_same}
 use Rattle.little_endian.proofs.Past.{byte_past, u32_past, u64_past}
 use Rattle.operand_checks.specs.Operands.{finite_from, finite_f32, finite_stroke, finite_run, finite_glyph, codes_fit, operands_at}

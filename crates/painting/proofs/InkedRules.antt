@@ -1,12 +1,11 @@
 -- The painters of `Inked` keep the rules over commands whose glyphs have their ink within the glyphs' boxes. Assumes nothing.
 use mathlib.Core.Path.{◌≡◌, refl, sym, ap, ◌∙◌}
-use mathlib.Core.Bool.{Bool, true, false, ◌&&◌, true≢false}
+use mathlib.Core.Bool.{Bool, true, false, ◌&&◌}
 use mathlib.Core.List.{List, [], ◌∷◌}
 use Prim.Native.Nat.{ℕ, ◌^◌, ◌<◌}
 use native.Mathlib.Omega.{arith}
 use borrow.Author.Tests.{eqb-true}
-use lib.Dec.{T, eqb}
-use lib.Ieee.{Float, eq}
+use lib.Dec.{T}
 use lib.Ieee.Fits.{and_l, and_r}
 use Rattle.lists.specs.Pick.{pick}
 use Rattle.lists.specs.Members.{All, In}
@@ -18,18 +17,14 @@ use Rattle.geometry.specs.Pixels.{touches}
 use Rattle.geometry.proofs.Edges.{Ordered}
 use Rattle.geometry.proofs.Cuts.{part_touches}
 use Rattle.geometry.proofs.Values.{touches_same}
-use Rattle.affine.specs.declared.Affine.{Affine}
-use Rattle.commands.specs.declared.Stroke.{Stroke}
 use Rattle.commands.specs.declared.Glyph.{Glyph}
-use Rattle.commands.specs.declared.DrawCommand.{DrawCommand}
-use Rattle.commands.specs.declared.DrawCommand.TheVariants.{FillPath, StrokePath, GlyphRun, Scene}
 use Rattle.commands.specs.Bounds.{Command, bounds, glyph_bounds}
 use Rattle.commands.proofs.Values.{Floats}
-use Rattle.operand_equality.specs.Operands.{same_affine, same_stroke, same_path, same_glyph, equal_glyph, equal_glyphs, same_clips}
-use Rattle.equality.specs.Drawings.{same_fill, same_stroked, same_run, same_scene, same_drawing, fills_alike, equal}
+use Rattle.operand_equality.specs.Operands.{same_glyph, equal_glyph, equal_glyphs, same_clips}
+use Rattle.equality.specs.Drawings.{same_drawing, equal}
 use Rattle.equality.proofs.Values.{Good, equal_bounds}
 use Rattle.index_words.specs.Painting.{paint_all}
-use Rattle.painting.specs.Painters.{Pixel, is_run, brush_of, Key, key_of, same_key, Rules}
+use Rattle.painting.specs.Painters.{Pixel, is_run, Key, key_of, same_key, Rules}
 use Rattle.painting.specs.Inked.{shape, mark, text, paint}
 use Rattle.painting.proofs.Keys.{key_parts, same_ink, key_of_parts}
 use Rattle.painting.proofs.Examples.{Kin, no_run, drawing_kin, fills_kin}

@@ -1,6 +1,6 @@
 -- Every region of an accepted call has one row, in whatever words begin with the plan's. Assumes nothing.
 use mathlib.Core.Path.{◌≡◌, refl, sym, ap, ◌∙◌, subst}
-use mathlib.Core.Bool.{Bool, true, true≢false}
+use mathlib.Core.Bool.{true, true≢false}
 use mathlib.Core.List.{List, ◌∷◌, [], ◌++◌, map}
 use mathlib.Core.Option.{Option, none, some}
 use Prim.Native.Nat.{ℕ, ◌/◌, ◌<◌}
@@ -28,9 +28,9 @@ use Rattle.frame.specs.declared.Pair.{Pair}
 use Rattle.frame.specs.declared.Pair.TheVariants.{Both, NotBoth}
 use Rattle.frame.specs.Frame.{first_of, both_of}
 use Rattle.plans.specs.Drafts.{Outcome, turned, drafted, screen_rect, on_first, on_both, first_outcome, next_outcome}
-use Rattle.plans.specs.Space.{Slices, Lent, lent_of}
-use Rattle.plans.specs.Answers.{answer_of, accepted, published, index_words as words_of}
-use Rattle.panels.specs.Entries.{call_of, regions_of, entries}
+use Rattle.plans.specs.Space.{Lent, lent_of}
+use Rattle.plans.specs.Answers.{answer_of, accepted, index_words as words_of}
+use Rattle.panels.specs.Entries.{call_of, regions_of}
 use Rattle.panels.specs.Rows.{RowAlike, SameRows}
 use Rattle.panels.proofs.Entries.{by_header, words_behind}
 

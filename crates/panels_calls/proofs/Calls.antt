@@ -1,7 +1,7 @@
 -- From an entry's contract to the planner of which crate `panels` speaks. Assumes nothing.
-use mathlib.Core.Path.{◌≡◌, refl, sym, ap, ◌∙◌, subst}
+use mathlib.Core.Path.{◌≡◌, refl, sym, ap, ◌∙◌}
 use mathlib.Core.Bool.{Bool, true, false, ◌&&◌, true≢false}
-use mathlib.Core.List.{List, ◌++◌}
+use mathlib.Core.List.{List}
 use mathlib.Core.Option.{Option, none, some}
 use Prim.Native.Nat.{ℕ}
 use lib.ListN.{length, drop}
@@ -9,11 +9,11 @@ use Rattle.lists.specs.Pick.{pick}
 use Rattle.scheduler.specs.Schedule.{words_of, regions_to}
 use Rattle.scheduler.proofs.Reading.{regions_back}
 use Rattle.plans.specs.declared.Plan.{Plan}
-use Rattle.plans.specs.declared.Plan.TheVariants.{Planned, Refused}
+use Rattle.plans.specs.declared.Plan.TheVariants.{Refused}
 use Rattle.plans.specs.Drafts.{Draft, Outcome, turned, drafted, first_outcome, next_outcome}
 use Rattle.plans.specs.Space.{Slices, Lent, lent_of}
 use Rattle.plans.specs.Answers.{items_fit, draft_fits, counts, answer_of, accepted, counts_of, region_words, index_words, published}
-use Rattle.panels.specs.Entries.{call_of, regions_of, entries}
+use Rattle.panels.specs.Entries.{call_of, regions_of}
 use Rattle.panels_calls.specs.Calls.{Called, CalledFirst, CalledNext}
 
 -- an accepted answer is a plan with the counts of its draft

@@ -1,6 +1,6 @@
 -- What an accepted plan counts fits the space lent, so that the program may read so far. Assumes nothing.
 use mathlib.Core.Path.{◌≡◌, sym, ◌∙◌, subst}
-use mathlib.Core.Bool.{Bool, true, false, ◌&&◌}
+use mathlib.Core.Bool.{Bool, true, ◌&&◌}
 use Prim.Native.Nat.{ℕ, ◌≤◌}
 use lib.Dec.{leb}
 use lib.ListN.{length}

@@ -12,10 +12,9 @@ use Rattle.lists.specs.Pick.{pick}
 use Rattle.lists.proofs.Picks.{pick_cases}
 use Rattle.geometry.specs.declared.Rect.{Rect}
 use Rattle.rect_list.specs.Rects as Rects
-use Rattle.scheduler.specs.Schedule as Schedule
 use Rattle.scheduler.proofs.Writes.{words_length}
 use Rattle.plans.specs.declared.Plan.{Plan}
-use Rattle.plans.specs.declared.Plan.TheVariants.{Planned, Refused}
+use Rattle.plans.specs.declared.Plan.TheVariants.{Refused}
 use Rattle.plans.specs.Drafts.{Draft, Items, Outcome, turned, drafted}
 use Rattle.plans.specs.Space.{Lent, lent_of}
 use Rattle.plans.specs.Answers.{items_fit, draft_fits, counts, answer_of, rect_words, region_words, index_words, published}

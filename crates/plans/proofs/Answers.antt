@@ -1,7 +1,6 @@
 -- An answer in the paper's words: its number, position and counts are those of the call. Assumes nothing.
 use mathlib.Core.Path.{◌≡◌, refl, ap, ◌∙◌}
 use mathlib.Core.Bool.{◌&&◌}
-use Prim.Native.Nat.{ℕ}
 use Rattle.lists.proofs.Picks.{pick_map, pick_same}
 use Rattle.plans.specs.declared.Plan.{Plan}
 use Rattle.plans.specs.declared.Plan.TheVariants.{Refused}

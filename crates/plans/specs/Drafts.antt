@@ -8,7 +8,6 @@ use Rattle.device.specs.declared.DeviceRegion.{DeviceRegion}
 use Rattle.scheduler.specs.Schedule.{schedule}
 use Rattle.index_words.specs.Index.{index_words}
 use Rattle.changes.specs.Changes.{diff_dirty}
-use Rattle.strip.specs.declared.Cursor.{Cursor}
 use Rattle.strip.specs.Reading.{commands_of}
 use Rattle.frame.specs.declared.Header.{Header}
 use Rattle.frame.specs.declared.Header.TheVariants.{Sizes, BadHeader}

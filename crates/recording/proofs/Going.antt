@@ -2,19 +2,16 @@
 -- nothing.
 use mathlib.Core.Path.{◌≡◌, refl, sym, ap, ◌∙◌, subst}
 use mathlib.Core.List.{List, [], ◌∷◌, ◌++◌}
-use mathlib.Core.Logic.{◌⊎◌, inl, inr, ⊎_elim}
 use Prim.Native.Nat.{ℕ, zero, suc, ◌+◌, ◌-◌, ◌*◌, ◌≤◌, ◌<◌}
 use native.Mathlib.Omega.{arith}
 use lib.ListN.{length, take, length-append, length-take}
 use lib.Seq.{take_at}
 use borrow.Author.Tests.{ne_eqb}
 use lib.Ieee.{Float}
-use Rattle.lists.proofs.Picks.{by_le, pick_false}
+use Rattle.lists.proofs.Picks.{by_le}
 use Rattle.geometry.specs.declared.Rect.{Rect}
-use Rattle.affine.specs.declared.Transformed.TheVariants.{Finite}
-use Rattle.affine.specs.Affines.{transform_rect_bbox}
 use Rattle.affine.proofs.Corners.{try_is}
-use Rattle.commands.specs.Bounds.{Command, transform_of, local_bounds, clipped, bounds}
+use Rattle.commands.specs.Bounds.{transform_of, local_bounds, clipped, bounds}
 use Rattle.clips.specs.Chains.{chain, Clips}
 use Rattle.clips.proofs.Chaining.{chain_none}
 use Rattle.strip_format.specs.Format.{rect_at, command_at}
@@ -31,12 +28,12 @@ use Rattle.strip.specs.Steps.{start_at, step_at}
 use Rattle.strip.specs.Effects.{Moves, Passes}
 use Rattle.strip.specs.Reading.{on_step, read_from, read_strip, command_of, drop_last, Listing, noted, on_next, list_from, commands_of}
 use Rattle.strip.proofs.Moves.{Moved, step_moves}
-use Rattle.strip_laws.specs.Limits.{Within, WhereRead, Whole}
+use Rattle.strip_laws.specs.Limits.{Within, Whole}
 use Rattle.strip_laws.proofs.Steps.{by_cases, Kept}
 use Rattle.strip_laws.proofs.Limits.{step_within, start_within}
 use Rattle.strip_laws.proofs.Runs.{InRun, step_in_run, Draws, step_draws}
 use Rattle.strip_laws.proofs.Boxes.{glyphs_of, Boxed, step_boxed}
-use Rattle.stored_lists.specs.Stored.{command_in, commands_in, Stored}
+use Rattle.stored_lists.specs.Stored.{command_in, commands_in}
 use Rattle.recording.specs.Recorded.{Space, space, SameLengths, Room, Holds, Recorded, Records}
 use Rattle.recording.proofs.Lists.{lists_alike, list_last, list_none}
 

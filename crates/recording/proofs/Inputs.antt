@@ -18,9 +18,9 @@ use Rattle.frame.specs.declared.First.{First}
 use Rattle.frame.specs.declared.First.TheVariants.{One, NotOne}
 use Rattle.frame.specs.declared.Pair.{Pair}
 use Rattle.frame.specs.declared.Pair.TheVariants.{Both, NotBoth}
-use Rattle.frame.specs.Frame.{first_of, both_of, then_end, then_new, then_strips, ended}
+use Rattle.frame.specs.Frame.{first_of, both_of, then_new, then_strips, ended}
 use Rattle.stored_lists.specs.Stored.{commands_in}
-use Rattle.recording.specs.Recorded.{Space, SameLengths, Room, Holds, Recorded, Records, RecordsFirst, Two, RecordsNew, RecordsBoth}
+use Rattle.recording.specs.Recorded.{Space, SameLengths, Room, Holds, Records, RecordsFirst, Two, RecordsNew, RecordsBoth}
 use Rattle.recording.proofs.Lists.{lists_alike}
 
 -- a space that nothing has been written to holds nothing

@@ -12,7 +12,7 @@ use Rattle.geometry.specs.declared.Rect.{Rect}
 use Rattle.geometry.specs.Boxes.{union}
 use Rattle.affine.specs.declared.Affine.{Affine}
 use Rattle.commands.specs.declared.DrawCommand.{DrawCommand}
-use Rattle.commands.specs.Bounds.{Command, transform_of, glyph_count, bounds, glyph_bounds}
+use Rattle.commands.specs.Bounds.{Command, transform_of, glyph_count, glyph_bounds}
 use Rattle.operand_equality.specs.Operands.{equal_glyphs, same_clips}
 use Rattle.equality.specs.Drawings.{same_drawing, equal, fills_alike, runs_alike, runs_alike_clipped}
 use Rattle.differences.specs.Differences.{rect_symmetric_difference}

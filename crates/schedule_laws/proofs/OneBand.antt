@@ -1,7 +1,7 @@
 -- What holds of the regions of one band. Assumes nothing.
 use mathlib.Core.Logic.{◌⊎◌, inl, inr, ⊎_elim}
 use mathlib.Core.List.{List}
-use Prim.Native.Nat.{ℕ, ◌-◌, ◌≤◌, ◌<◌}
+use Prim.Native.Nat.{ℕ, ◌≤◌, ◌<◌}
 use native.Mathlib.Omega.{arith}
 use Rattle.lists.specs.Members.{All, Any, Pairs}
 use Rattle.lists.proofs.Members.{all_map, all_of, pairs_with, pairs_both, pairs_map}

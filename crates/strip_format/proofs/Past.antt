@@ -1,14 +1,11 @@
 -- Boxes, affines and glyphs past the end: every number is 0. Assumes nothing.
-use mathlib.Core.Path.{◌≡◌, refl}
+use mathlib.Core.Path.{◌≡◌}
 use mathlib.Core.List.{List}
 use Prim.Native.Nat.{ℕ, ◌+◌, ◌≤◌}
 use native.Mathlib.Omega.{arith}
 use lib.Ieee.{Float, binary32, binary64, of_bits}
 use lib.ListN.{length, get_or}
 use Rattle.geometry.specs.declared.Rect.{Rect}
-use Rattle.affine.specs.declared.Affine.{Affine}
-use Rattle.commands.specs.declared.Glyph.{Glyph}
-use Rattle.commands.specs.declared.Stroke.{Stroke}
 use Rattle.commands.specs.declared.Join.TheVariants.{Bevel}
 use Rattle.commands.specs.declared.Cap.TheVariants.{Butt}
 use Rattle.little_endian.specs.Words.{u32_at, u64_at, f32_at, f64_at}

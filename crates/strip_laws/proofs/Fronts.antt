@@ -8,7 +8,7 @@ use native.Mathlib.Omega.{arith}
 use lib.ListN.{length, get_or, length-append, get_or-append}
 use Rattle.geometry.specs.declared.Rect.{Rect}
 use Rattle.commands.specs.declared.DrawCommand.{DrawCommand}
-use Rattle.commands.specs.Bounds.{Command, glyph_count}
+use Rattle.commands.specs.Bounds.{glyph_count}
 use Rattle.strip_format.specs.Format.{command_at, glyphs_from}
 use Rattle.strip.specs.declared.Cursor.{Cursor}
 use Rattle.strip.specs.declared.Step.{Step}

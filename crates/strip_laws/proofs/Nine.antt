@@ -2,7 +2,7 @@
 use mathlib.Core.Path.{◌≡◌, refl, sym, ap, ◌∙◌, subst}
 use mathlib.Core.Bool.{true}
 use mathlib.Core.List.{List, []}
-use mathlib.Core.Logic.{◌⊎◌, inl, inr}
+use mathlib.Core.Logic.{inl, inr}
 use Prim.Native.Nat.{ℕ, ◌+◌, ◌-◌, ◌≤◌, ◌<◌}
 use native.Mathlib.Omega.{arith}
 use lib.Dec.{leb, ltb, eqb}
@@ -25,7 +25,7 @@ use Rattle.operand_checks.proofs.Numbers.{operands_most}
 use Rattle.strip.specs.declared.Cursor.{Cursor}
 use Rattle.strip.specs.declared.Step.{Step}
 use Rattle.strip.specs.declared.Step.TheVariants.{Next, Clip, Pop, Draw, End, Refused}
-use Rattle.strip.specs.Steps.{due_fits, on_box, clip_step, pop_step, drawn, draw_step, run_step, announced, unite, glyph_read, last_step, glyph_step, end_step, effect_of, Draws, step_at}
+use Rattle.strip.specs.Steps.{due_fits, on_box, clip_step, pop_step, drawn, draw_step, run_step, announced, unite, glyph_read, last_step, glyph_step, effect_of, Draws, step_at}
 use Rattle.strip.proofs.Effects.{effect_glyph, draws_whole, step_effect}
 use Rattle.strip_laws.specs.Nine.{byte_at, NoneBefore, DrawnUnbounded, GlyphUnbounded, Nine}
 use Rattle.strip_laws.proofs.Steps.{run_count, no_count}

@@ -2,9 +2,9 @@
 -- positions, where s goes on or where both inputs end alike. Assumes nothing.
 use mathlib.Core.Path.{◌≡◌, refl, sym, ap, ◌∙◌, subst}
 use mathlib.Core.Bool.{Bool, true, false}
-use mathlib.Core.Logic.{◌⊎◌, inl, inr, ⊎_elim}
-use mathlib.Core.List.{List, [], ◌∷◌, ◌++◌}
-use Prim.Native.Nat.{ℕ, zero, suc, ◌+◌, ◌-◌, ◌*◌, ◌≤◌, ◌<◌}
+use mathlib.Core.Logic.{◌⊎◌, ⊎_elim}
+use mathlib.Core.List.{List}
+use Prim.Native.Nat.{ℕ, ◌+◌, ◌-◌, ◌≤◌, ◌<◌}
 use native.Mathlib.Omega.{arith}
 use lib.Dec.{leb, ltb, eqb}
 use lib.ListN.{length, get_or}
@@ -16,11 +16,10 @@ use Rattle.geometry.specs.Boxes.{union}
 use Rattle.affine.specs.declared.Transformed.{Transformed}
 use Rattle.affine.specs.declared.Transformed.TheVariants.{Finite, NotFinite}
 use Rattle.affine.specs.Affines.{try_transform}
-use Rattle.commands.specs.declared.DrawCommand.{DrawCommand}
-use Rattle.commands.specs.Bounds.{glyph_count, transform_of, try_with}
+use Rattle.commands.specs.Bounds.{transform_of, try_with}
 use Rattle.little_endian.specs.Words.{u16_at}
-use Rattle.strip_format.specs.Format.{length_of, rect_at, command_at, glyphs_from}
-use Rattle.strip_format.proofs.Lengths.{length_pos, length_clip, length_run, length_glyph}
+use Rattle.strip_format.specs.Format.{length_of, rect_at, command_at}
+use Rattle.strip_format.proofs.Lengths.{length_clip, length_run, length_glyph}
 use Rattle.operand_checks.specs.Operands.{operands_at}
 use Rattle.strip.specs.declared.Cursor.{Cursor}
 use Rattle.strip.specs.declared.Step.{Step}
