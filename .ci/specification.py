@@ -44,8 +44,8 @@ STATEMENTS = [
 ]
 
 WORD = re.compile(r"[^\s(){};,]+")
-# What a file imports that is not the toolchain's, and the forms of it that can be followed.
-OWN = r"^.*\buse\s+(?!Rattle\.std\.|mathlib\.)\w+\..*$"
+# What a file imports that is neither the toolchain's nor code, and the forms of it that can be followed.
+OWN = r"^[ \t]*(?:pub[ \t]+)?(?:ghost[ \t]+)?use[ \t]+(?!Rattle\.std\.|mathlib\.|\w+::).*$"
 IMPORT = re.compile(
     r"^\s*(?:ghost\s+)?use\s+Rattle\.(?!std\.)(?P<crate>[a-z0-9_]+)\.specs\.(?P<declared>declared\.)?(?P<module>[A-Za-z0-9_]+)"
     r"(?:\.TheVariants)?(?:\.\{(?P<names>[^}]*)\})?(?:\s+as\s+(?P<alias>\w+))?;?\s*$",
