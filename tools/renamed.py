@@ -15,8 +15,9 @@ def names(path):
     for line in read(path).split("\n"):
         line = re.sub(r"\s*--.*", "", line)
         match = DECLARED.match(line) or HEADED.match(line)
-        if match and match[match.lastindex] not in ("let", "use", "mod"):
-            found.append(match[match.lastindex])
+        name = match and match[match.lastindex]
+        if name and len(name) > 1 and name not in ("let", "use", "mod", "module"):
+            found.append(name)
     return found
 
 
