@@ -8,8 +8,8 @@ use Rattle.lists.proofs.Picks.{pick_true, pick_false}
 use Rattle.geometry.specs.declared.Rect.{Rect}
 use Rattle.affine.specs.declared.Affine.{Affine}
 use Rattle.affine.specs.declared.Point.{Point}
-use Rattle.affine.specs.declared.Transformed.TheVariants.{Finite, NotFinite}
 use Rattle.affine.specs.Affines.{◌⊕◌, finite_point, all_finite, bounding_box, bound_finite, finite_corners, transform_rect_bbox, try_transform}
+use Rattle.std.specs.Prelude.{Some, None}
 
 infixl 60 ◌⊖◌
 -- the difference of two f64, rounded once
@@ -44,20 +44,20 @@ module _ (p q r s : Point) where
       (and_cross (finite p.x && finite q.x) (finite r.x) (finite p.y && finite q.y) (finite r.y)
       ∙ ap (λ (b : Bool). b && (finite r.x && finite r.y)) (and_cross (finite p.x) (finite q.x) (finite p.y) (finite q.y)))
 
-  pub bound_yes : all_finite p q r s ≡ true → Finite (bounding_box p q r s) ≡ bound_finite p q r s
+  pub bound_yes : all_finite p q r s ≡ true → Some (bounding_box p q r s) ≡ bound_finite p q r s
   unfolding bound_finite
-  bound_yes e = sym (pick_true (all_finite p q r s) (Finite (bounding_box p q r s)) NotFinite e)
+  bound_yes e = sym (pick_true (all_finite p q r s) (Some (bounding_box p q r s)) None e)
 
-  pub bound_no : all_finite p q r s ≡ false → NotFinite ≡ bound_finite p q r s
+  pub bound_no : all_finite p q r s ≡ false → None ≡ bound_finite p q r s
   unfolding bound_finite
-  bound_no e = sym (pick_false (all_finite p q r s) (Finite (bounding_box p q r s)) NotFinite e)
+  bound_no e = sym (pick_false (all_finite p q r s) (Some (bounding_box p q r s)) None e)
 
 -- the test of the corners by itself says whether there is a box
 module _ (t : Affine) (b : Rect) where
-  pub corners_yes : finite_corners t b ≡ true → try_transform t b ≡ Finite (transform_rect_bbox t b)
+  pub corners_yes : finite_corners t b ≡ true → try_transform t b ≡ Some (transform_rect_bbox t b)
   unfolding finite_corners try_transform transform_rect_bbox
   corners_yes e = sym (bound_yes _ _ _ _ e)
 
-  pub corners_no : finite_corners t b ≡ false → try_transform t b ≡ NotFinite
+  pub corners_no : finite_corners t b ≡ false → try_transform t b ≡ None
   unfolding finite_corners try_transform
   corners_no e = sym (bound_no _ _ _ _ e)

@@ -12,9 +12,9 @@ use Rattle.floats.proofs.Orders.{larger_either, smaller_either}
 use Rattle.geometry.specs.declared.Rect.{Rect}
 use Rattle.affine.specs.declared.Affine.{Affine}
 use Rattle.affine.specs.declared.Point.{Point}
-use Rattle.affine.specs.declared.Transformed.TheVariants.{Finite, NotFinite}
 use Rattle.affine.specs.Affines.{bounding_box, transform_rect_bbox, finite_point, all_finite, bound_finite, try_transform}
 use Rattle.geometry.proofs.Edges.{Edges}
+use Rattle.std.specs.Prelude.{Some, None}
 
 -- an edge of the least box over four points is a coordinate of one of them
 module _ (P : Float → Type 0) (p q r s : Point) (px : P p.x) (py : P p.y) (qx : P q.x) (qy : P q.y) (rx : P r.x) (ry : P r.y) (sx : P s.x) (sy : P s.y) where
@@ -31,11 +31,11 @@ finite_both : (p : Point) → T (finite_point p) → T (finite p.x) × T (finite
 unfolding finite_point
 finite_both p t = (and_l (finite p.x) (finite p.y) t, and_r (finite p.x) (finite p.y) t)
 
-picked_finite : (b : Bool) (x r : Rect) → pick b (Finite x) NotFinite ≡ Finite r → T b × (r ≡ x)
+picked_finite : (b : Bool) (x r : Rect) → pick b (Some x) None ≡ Some r → T b × (r ≡ x)
 picked_finite true x r e = (tt, let k : r ≡ x = cc in k)
 picked_finite false x r e = let z : ◌≡◌ {A = ℕ} 0 1 = cc in absurd (omega arith)
 
-module _ (p q r s : Point) (b : Rect) (e : bound_finite p q r s ≡ Finite b) where
+module _ (p q r s : Point) (b : Rect) (e : bound_finite p q r s ≡ Some b) where
   pub bound_is : b ≡ bounding_box p q r s
   unfolding bound_finite all_finite
   bound_is = (picked_finite (finite_point p && finite_point q && finite_point r && finite_point s) (bounding_box p q r s) b e).1
@@ -55,7 +55,7 @@ module _ (p q r s : Point) (b : Rect) (e : bound_finite p q r s ≡ Finite b) wh
       subst (Edges (λ x. T (finite x))) (sym bound_is) (bound_edges (λ x. T (finite x)) p q r s fp.0 fp.1 fq.0 fq.1 fr.0 fr.1 fs.0 fs.1)
 
 -- where the answer is a box, it is the transformed box, and all its edges are finite
-module _ (t : Affine) (a b : Rect) (e : try_transform t a ≡ Finite b) where
+module _ (t : Affine) (a b : Rect) (e : try_transform t a ≡ Some b) where
   pub try_is : b ≡ transform_rect_bbox t a
   unfolding try_transform transform_rect_bbox
   try_is = bound_is _ _ _ _ b e

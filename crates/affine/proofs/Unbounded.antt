@@ -11,10 +11,10 @@ use Rattle.ieee.proofs.Finite.{mul_finite, add_finite}
 use Rattle.geometry.specs.declared.Rect.{Rect}
 use Rattle.affine.specs.declared.Affine.{Affine}
 use Rattle.affine.specs.declared.Point.{Point}
-use Rattle.affine.specs.declared.Transformed.TheVariants.{Finite, NotFinite}
 use Rattle.affine.specs.Affines.{◌⊕◌, ◌⊗◌, transform_point, finite_point, all_finite, bound_finite, finite_corners, try_transform}
 use Rattle.affine.specs.Unbounded.{Unbounded, UnboundedPoint, UnboundedEdge, UnboundedCorner, UnboundedBox}
 use Rattle.affine.proofs.Answers.{corners_no}
+use Rattle.std.specs.Prelude.{Some, None}
 
 -- ---- an edge makes a corner so
 -- a times x + b times y + c is finite only where x and y are
@@ -71,16 +71,16 @@ module _ (p q r s : Point) where
       last (inr u) = inr (inr (inr (told_point s u)))
 
 -- ---- the case, both ways
-picked_none : (b : Bool) (x : Rect) → pick b (Finite x) NotFinite ≡ NotFinite → b ≡ false
+picked_none : (b : Bool) (x : Rect) → pick b (Some x) None ≡ None → b ≡ false
 picked_none true x e = let z : true ≡ false = cc in z
 picked_none false x e = refl
 
 module _ (t : Affine) (b : Rect) where
-  pub no_box_unbounded : try_transform t b ≡ NotFinite → UnboundedBox t b
+  pub no_box_unbounded : try_transform t b ≡ None → UnboundedBox t b
   unfolding try_transform bound_finite
   no_box_unbounded e = inr (told_points _ _ _ _ (picked_none _ _ e))
 
-  pub unbounded_no_box : UnboundedBox t b → try_transform t b ≡ NotFinite
+  pub unbounded_no_box : UnboundedBox t b → try_transform t b ≡ None
   unfolding finite_corners
   unbounded_no_box (inl u) = corners_no t b (points_told _ _ _ _ (edge_corner t b u))
   unbounded_no_box (inr u) = corners_no t b (points_told _ _ _ _ u)

@@ -9,9 +9,8 @@ use Rattle.geometry.specs.declared.Rect.{Rect}
 use Rattle.geometry.proofs.Values.{SameBox}
 use Rattle.affine.specs.declared.Affine.{Affine}
 use Rattle.affine.specs.declared.Point.{Point}
-use Rattle.affine.specs.declared.Transformed.{Transformed}
-use Rattle.affine.specs.declared.Transformed.TheVariants.{Finite, NotFinite}
 use Rattle.affine.specs.Affines.{◌⊕◌, ◌⊗◌, transform_point, bounding_box, transform_rect_bbox, finite_point, all_finite, bound_finite, try_transform}
+use Rattle.std.specs.Prelude.{Option, Some, None}
 
 pub record SamePoint (p q : Point) : Type 0 where
   pub x : Same p.x q.x
@@ -54,13 +53,13 @@ unfolding finite_point
 finite_point_same p q k = λ i. same_finite p.x q.x k.x i && same_finite p.y q.y k.y i
 
 -- ---- the transform with its answer for a corner that is not finite
-abbrev pub SameTransformed : Transformed → Transformed → Type 0
-SameTransformed (Finite a) (Finite b) = SameBox a b
-SameTransformed NotFinite NotFinite = Unit {0}
-SameTransformed (Finite a) NotFinite = ⊥
-SameTransformed NotFinite (Finite b) = ⊥
+abbrev pub SameTransformed : Option Rect → Option Rect → Type 0
+SameTransformed (Some a) (Some b) = SameBox a b
+SameTransformed None None = Unit {0}
+SameTransformed (Some a) None = ⊥
+SameTransformed None (Some b) = ⊥
 
-picked_same : (x y : Bool) (a b : Rect) → x ≡ y → SameBox a b → SameTransformed (pick x (Finite a) NotFinite) (pick y (Finite b) NotFinite)
+picked_same : (x y : Bool) (a b : Rect) → x ≡ y → SameBox a b → SameTransformed (pick x (Some a) None) (pick y (Some b) None)
 picked_same true true a b e k = k
 picked_same false false a b e k = tt
 picked_same true false a b e k = true≢false e

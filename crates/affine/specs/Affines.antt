@@ -1,5 +1,5 @@
 -- Affines and transformed boxes, as document 01 gives kurbo's.
-use Rattle.std.specs.Prelude.{Bool, ◌&&◌, Float}
+use Rattle.std.specs.Prelude.{Bool, ◌&&◌, Float, Option, Some, None}
 use Rattle.std.specs.Float.{binary64}
 use Rattle.std.specs.Float.Ieee.{add, mul}
 use Rattle.std.specs.Float.Ieee.Scale.{finite}
@@ -8,8 +8,6 @@ use Rattle.floats.specs.Order.{larger, smaller}
 use Rattle.geometry.specs.declared.Rect.{Rect}
 use Rattle.affine.specs.declared.Affine.{Affine}
 use Rattle.affine.specs.declared.Point.{Point}
-use Rattle.affine.specs.declared.Transformed.{Transformed}
-use Rattle.affine.specs.declared.Transformed.TheVariants.{Finite, NotFinite}
 
 infixl 60 ◌⊕◌
 infixl 70 ◌⊗◌
@@ -46,10 +44,10 @@ finite_point p = finite p.x && finite p.y
 unfoldable pub all_finite : Point → Point → Point → Point → Bool
 all_finite p q r s = finite_point p && finite_point q && finite_point r && finite_point s
 
-unfoldable pub bound_finite : Point → Point → Point → Point → Transformed
-bound_finite p q r s = pick (all_finite p q r s) (Finite (bounding_box p q r s)) NotFinite
+unfoldable pub bound_finite : Point → Point → Point → Point → Option Rect
+bound_finite p q r s = pick (all_finite p q r s) (Some (bounding_box p q r s)) None
 
-unfoldable pub try_transform : Affine → Rect → Transformed
+unfoldable pub try_transform : Affine → Rect → Option Rect
 try_transform t b = bound_finite (transform_point t b.x0 b.y0) (transform_point t b.x1 b.y0) (transform_point t b.x0 b.y1) (transform_point t b.x1 b.y1)
 
 -- the same test by itself

@@ -24,13 +24,6 @@ pub struct Affine {
     pub f: f64,
 }
 
-// A transformed box, or word that one of its corners is infinite or a NaN.
-#[derive(Clone, Copy)]
-pub enum Transformed {
-    Finite(Rect),
-    NotFinite,
-}
-
 fn least(p: f64, q: f64, r: f64, s: f64) -> f64
     ensures { result ≡ Affines.least p q r s }
 {
@@ -65,14 +58,14 @@ fn all_finite(p: Point, q: Point, r: Point, s: Point) -> bool
     x + y == 0.0
 }
 
-// The least box over four points, unless one is not finite.
-fn bound_finite(p: Point, q: Point, r: Point, s: Point) -> Transformed
+// The least box over four points; none where one of them is infinite or a NaN.
+fn bound_finite(p: Point, q: Point, r: Point, s: Point) -> Option<Rect>
     ensures { result ≡ Affines.bound_finite p q r s }
 {
     if all_finite(p, q, r, s) {
-        return Transformed::Finite(bounding_box(p, q, r, s));
+        return Some(bounding_box(p, q, r, s));
     }
-    Transformed::NotFinite
+    None
 }
 
 impl Affine {
@@ -109,8 +102,8 @@ impl Affine {
         )
     }
 
-    // The same, with an answer of its own where a corner is not finite.
-    pub fn try_transform(self, rect: Rect) -> Transformed
+    // The same box; none where a corner is infinite or a NaN.
+    pub fn try_transform(self, rect: Rect) -> Option<Rect>
         ensures { result ≡ Affines.try_transform self rect }
     {
         bound_finite(

@@ -16,12 +16,12 @@ use Rattle.floats.proofs.Orders.{larger_rank, smaller_rank, larger_ordered, smal
 use Rattle.geometry.specs.declared.Rect.{Rect}
 use Rattle.geometry.proofs.Edges.{Edges, Ordered}
 use Rattle.affine.specs.declared.Affine.{Affine}
-use Rattle.affine.specs.declared.Transformed.TheVariants.{Finite, NotFinite}
 use Rattle.affine.specs.Affines.{◌⊕◌, ◌⊗◌, least, greatest, transform_point, bounding_box, transform_rect_bbox, finite_point, all_finite, bound_finite, try_transform}
 use Rattle.affine.proofs.Corners.{bound_edges, try_is, try_finite}
 use Rattle.commands.specs.declared.Glyph.{Glyph}
 use Rattle.commands.specs.Bounds.{Command, transform_of, local_bounds, clipped, bounds, glyph_bounds}
 use Rattle.commands.proofs.Clips.{Upright, clipped_edges, clipped_upright}
+use Rattle.std.specs.Prelude.{Some, None}
 
 -- a number that is finite, and an f64
 abbrev pub Number : Float → Type 0
@@ -51,7 +51,7 @@ module _ (p q r s : Float) (a : T (ordered p)) (b : T (ordered q)) (c : T (order
   least_greatest = let l = least_low in let g = greatest_high in omega arith
 
 -- ---- the corners of a box that was transformed are finite
-all_four : (a b c d : Bool) (x y : Rect) → pick (a && b && c && d) (Finite x) NotFinite ≡ Finite y → T a × T b × T c × T d
+all_four : (a b c d : Bool) (x y : Rect) → pick (a && b && c && d) (Some x) None ≡ Some y → T a × T b × T c × T d
 all_four true true true true x y e = (tt, tt, tt, tt)
 all_four false b c d x y e = let z : ◌≡◌ {A = ℕ} 0 1 = cc in absurd (omega arith)
 all_four true false c d x y e = let z : ◌≡◌ {A = ℕ} 0 1 = cc in absurd (omega arith)
@@ -77,7 +77,7 @@ transform_fits t b = bound_edges (λ x. T (fits binary64 x)) (transform_point t 
     along x y = add-fits binary64 (t.b ⊗ x ⊕ t.d ⊗ y) t.f
 
 -- ---- so the transformed box has numbers for edges, and is not reversed
-module _ (t : Affine) (a b : Rect) (e : try_transform t a ≡ Finite b) where
+module _ (t : Affine) (a b : Rect) (e : try_transform t a ≡ Some b) where
   pub transform_numbers : Edges Number b
   transform_numbers =
       let f = try_finite t a b e in
@@ -102,7 +102,7 @@ module _ (c : Command) (k : All (Edges Number) c.clips) where
   clips_ordered : All Ordered c.clips
   clips_ordered = all_map (Edges Number) Ordered numbers_ordered c.clips k
 
-  module _ (b : Rect) (e : try_transform (transform_of c.draw) (local_bounds c.draw c.glyphs) ≡ Finite b) where
+  module _ (b : Rect) (e : try_transform (transform_of c.draw) (local_bounds c.draw c.glyphs) ≡ Some b) where
     pub bounds_is : bounds c ≡ clipped c.clips b
     unfolding bounds
     bounds_is = ap (clipped c.clips) (sym (try_is (transform_of c.draw) (local_bounds c.draw c.glyphs) b e))
@@ -113,7 +113,7 @@ module _ (c : Command) (k : All (Edges Number) c.clips) where
     pub bounds_upright : Upright (bounds c)
     bounds_upright = subst Upright (sym bounds_is) (clipped_upright c.clips b clips_ordered (numbers_ordered b (transform_numbers _ _ b e)) (transform_upright _ _ b e))
 
-  module _ (g : Glyph) (b : Rect) (e : try_transform (transform_of c.draw) g.bounds ≡ Finite b) where
+  module _ (g : Glyph) (b : Rect) (e : try_transform (transform_of c.draw) g.bounds ≡ Some b) where
     pub glyph_is : glyph_bounds c g ≡ clipped c.clips b
     unfolding glyph_bounds
     glyph_is = ap (clipped c.clips) (sym (try_is (transform_of c.draw) g.bounds b e))

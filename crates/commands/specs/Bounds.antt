@@ -1,12 +1,11 @@
 -- A command with its glyphs and open clips, and its box. To believe: document 01's "Active clip box .. RUN takes the union of its glyph boxes, or
 -- its own box without glyphs." A list of commands, in every definition above, is a list of these.
-use Rattle.std.specs.Prelude.{List, [], ◌∷◌, ℕ, eqb}
+use Rattle.std.specs.Prelude.{List, [], ◌∷◌, ℕ, eqb, Option}
 use Rattle.std.specs.Float.{nan}
 use Rattle.lists.specs.Pick.{pick}
 use Rattle.geometry.specs.declared.Rect.{Rect}
 use Rattle.geometry.specs.Boxes.{intersect, union, inflate}
 use Rattle.affine.specs.declared.Affine.{Affine}
-use Rattle.affine.specs.declared.Transformed.{Transformed}
 use Rattle.affine.specs.Affines.{transform_rect_bbox, try_transform}
 use Rattle.commands.specs.declared.Glyph.{Glyph}
 use Rattle.commands.specs.declared.DrawCommand.{DrawCommand}
@@ -58,7 +57,7 @@ local_with (GlyphRun font size t brush b n) u = pick (eqb n 0) b u
 local_with (Scene content generation target t b) u = b
 
 -- number 9's case: `NotFinite` where a transformed corner of that box is not finite
-abbrev pub try_with : DrawCommand → Rect → Transformed
+abbrev pub try_with : DrawCommand → Rect → Option Rect
 try_with d u = try_transform (transform_of d) (local_with d u)
 
 -- ---- the box after it

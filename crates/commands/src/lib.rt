@@ -6,7 +6,7 @@ ghost use Rattle.std.specs.Prelude.{◌≡◌};
 ghost use Rattle.commands.specs.Strokes as Strokes;
 ghost use Rattle.commands.specs.Bounds as Bounds;
 
-use affine::{Affine, Transformed};
+use affine::Affine;
 use geometry::Rect;
 
 #[derive(Clone, Copy)]
@@ -143,8 +143,8 @@ impl DrawCommand {
         }
     }
 
-    // The transformed box before clipping, or word that a corner is not finite.
-    pub fn try_bounds(self, united: Rect) -> Transformed
+    // The transformed box before clipping; none where a corner is not finite.
+    pub fn try_bounds(self, united: Rect) -> Option<Rect>
         ensures { result ≡ Bounds.try_with self united }
     {
         let transform = self.transform();

@@ -7,17 +7,16 @@ use Rattle.lists.proofs.Picks.{pick_true, pick_false}
 use Rattle.geometry.specs.declared.Rect.{Rect}
 use Rattle.geometry.specs.Boxes.{intersect, positive_area}
 use Rattle.geometry.specs.Parts.{top_part, bottom_part, left_part, right_part}
-use Rattle.differences.specs.declared.Part.TheVariants.{Kept, Dropped}
-use Rattle.differences.specs.declared.Part.{Part}
 use Rattle.differences.specs.declared.Parts.{Parts}
 use Rattle.differences.specs.Differences.{with_area, rect_difference, boxes_of, list_of, keep, around}
+use Rattle.std.specs.Prelude.{Option, Some, None}
 
 -- a box in front of others, kept if it has an area
 kept : (b : Rect) (l m : List Rect) → l ≡ with_area m → boxes_of (keep b) ++ l ≡ with_area (b ∷ m)
 unfolding keep with_area
 kept b l m e = go (positive_area b)
   where
-    go : (t : Bool) → boxes_of (pick t (Kept b) Dropped) ++ l ≡ pick t (b ∷ with_area m) (with_area m)
+    go : (t : Bool) → boxes_of (pick t (Some b) None) ++ l ≡ pick t (b ∷ with_area m) (with_area m)
     go true = ap (λ (z : List Rect). b ∷ z) e
     go false = e
 
@@ -35,6 +34,6 @@ module _ (r s : Rect) where
   unfolding rect_difference
   parted v p e a q = ap list_of (q ∙ ap (around r) e) ∙ around_list r (intersect r s) ∙ ap with_area (sym (pick_true (positive_area (intersect r s)) _ _ (ap positive_area (sym e) ∙ a)))
 
-  pub apart : (v : Rect) (p : Part) → v ≡ intersect r s → positive_area v ≡ false → p ≡ keep r → boxes_of p ++ [] ≡ rect_difference r s
+  pub apart : (v : Rect) (p : Option Rect) → v ≡ intersect r s → positive_area v ≡ false → p ≡ keep r → boxes_of p ++ [] ≡ rect_difference r s
   unfolding rect_difference with_area
-  apart v p e a q = ap (λ (z : Part). boxes_of z ++ []) q ∙ kept r [] [] refl ∙ ap with_area (sym (pick_false (positive_area (intersect r s)) _ _ (ap positive_area (sym e) ∙ a)))
+  apart v p e a q = ap (λ (z : Option Rect). boxes_of z ++ []) q ∙ kept r [] [] refl ∙ ap with_area (sym (pick_false (positive_area (intersect r s)) _ _ (ap positive_area (sym e) ∙ a)))

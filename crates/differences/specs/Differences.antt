@@ -1,11 +1,9 @@
 -- What a box leaves of another, as a list of boxes. The parts themselves are those of crate `geometry`.
-use Rattle.std.specs.Prelude.{List, [], ◌∷◌, ◌++◌}
+use Rattle.std.specs.Prelude.{List, [], ◌∷◌, ◌++◌, Option, Some, None}
 use Rattle.lists.specs.Pick.{pick}
 use Rattle.geometry.specs.declared.Rect.{Rect}
 use Rattle.geometry.specs.Boxes.{intersect, positive_area}
 use Rattle.geometry.specs.Parts.{top_part, bottom_part, left_part, right_part}
-use Rattle.differences.specs.declared.Part.{Part}
-use Rattle.differences.specs.declared.Part.TheVariants.{Kept, Dropped}
 use Rattle.differences.specs.declared.Parts.{Parts}
 
 -- "positive area only"
@@ -25,15 +23,15 @@ rect_symmetric_difference old new = rect_difference old new ++ rect_difference n
 
 -- ---- the code's answers
 -- a part, and the boxes that it stands for
-abbrev pub boxes_of : Part → List Rect
-boxes_of (Kept b) = b ∷ []
-boxes_of Dropped = []
+abbrev pub boxes_of : Option Rect → List Rect
+boxes_of (Some b) = b ∷ []
+boxes_of None = []
 
 abbrev pub list_of : Parts → List Rect
 list_of p = boxes_of p.first ++ (boxes_of p.second ++ (boxes_of p.third ++ boxes_of p.fourth))
 
-unfoldable pub keep : Rect → Part
-keep b = pick (positive_area b) (Kept b) Dropped
+unfoldable pub keep : Rect → Option Rect
+keep b = pick (positive_area b) (Some b) None
 
 unfoldable pub around : Rect → Rect → Parts
 around b v = record { first = keep (top_part b v); second = keep (bottom_part b v); third = keep (left_part b v); fourth = keep (right_part b v) }

@@ -6,30 +6,23 @@ ghost use Rattle.differences.specs.Differences as Differences;
 
 use geometry::Rect;
 
-// A part of a box, or word that it has no area.
-#[derive(Clone, Copy)]
-pub enum Part {
-    Kept(Rect),
-    Dropped,
-}
-
-// Up to four parts, in order: dew's list of boxes, by value.
+// Up to four parts, in order: dew's list of boxes, by value. A part without area is none.
 #[derive(Clone, Copy)]
 pub struct Parts {
-    pub first: Part,
-    pub second: Part,
-    pub third: Part,
-    pub fourth: Part,
+    pub first: Option<Rect>,
+    pub second: Option<Rect>,
+    pub third: Option<Rect>,
+    pub fourth: Option<Rect>,
 }
 
 // The box, if it has an area.
-fn keep(rect: Rect) -> Part
+fn keep(rect: Rect) -> Option<Rect>
     ensures { result ≡ Differences.keep rect }
 {
     if rect.positive_area() {
-        Part::Kept(rect)
+        Some(rect)
     } else {
-        Part::Dropped
+        None
     }
 }
 
@@ -79,8 +72,8 @@ pub fn rect_difference(rect: Rect, subtract: Rect) -> Parts
     }
     Parts {
         first: keep(rect),
-        second: Part::Dropped,
-        third: Part::Dropped,
-        fourth: Part::Dropped,
+        second: None,
+        third: None,
+        fourth: None,
     }
 }

@@ -12,7 +12,6 @@ use borrow.Author.Tests.{le-leb, ne_eqb}
 use Rattle.lists.specs.Pick.{pick}
 use Rattle.lists.proofs.Picks.{pick_true, pick_false}
 use Rattle.geometry.specs.declared.Rect.{Rect}
-use Rattle.affine.specs.declared.Transformed.TheVariants.{Finite}
 use Rattle.affine.specs.Affines.{transform_rect_bbox}
 use Rattle.affine.proofs.Corners.{try_is}
 use Rattle.commands.specs.declared.Glyph.{Glyph}
@@ -24,6 +23,7 @@ use Rattle.clips.proofs.Chaining.{clip_rect_is, chain_none, chain_step, put_kept
 use Rattle.display_list.specs.declared.ListState.{ListState}
 use Rattle.display_list.specs.Lists.{clip_room, pushed_clip, clip_boxes, clip_numbers, popped_clip, open_rect, window_glyph_bounds}
 use Rattle.display_list.proofs.Rooms.{fits_clip}
+use Rattle.std.specs.Prelude.{Some}
 
 -- the state stands for these open clips, oldest first, and the space holds them
 pub record Held (cs : List Rect) (d : ListState) (bs : List Float) (ns : List ℕ) : Type 0 where
@@ -127,7 +127,7 @@ module _ (cs : List Rect) (d : ListState) (bs : List Float) (ns : List ℕ) (h :
       pick_true _ (clip_rect bs d.top b) b (le-leb d.top (length bs / 8) l) ∙ clip_rect_is d.clips bs ns h.clips d.top h.low b ∙ ap (λ (z : List Rect). clipped z b) h.chained
 
   -- what is stored for a command whose corners are finite is its box
-  pub open_bounds : (draw : DrawCommand) (gs : List Glyph) (u own b : Rect) → glyph_count draw ≡ length gs → (0 < length gs → u ≡ united own gs) → try_with draw u ≡ Finite b → open_rect d bs b ≡ bounds (record { draw = draw; glyphs = gs; clips = cs })
+  pub open_bounds : (draw : DrawCommand) (gs : List Glyph) (u own b : Rect) → glyph_count draw ≡ length gs → (0 < length gs → u ≡ united own gs) → try_with draw u ≡ Some b → open_rect d bs b ≡ bounds (record { draw = draw; glyphs = gs; clips = cs })
   unfolding bounds
   open_bounds draw gs u own b n f e =
       let l : local_with draw u ≡ local_bounds draw gs = local_is draw u own gs n f in

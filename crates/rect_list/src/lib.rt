@@ -6,7 +6,7 @@ ghost use Rattle.std.specs.Prelude.{[], ◌∷◌, ◌+◌, ◌<◌};
 ghost use Rattle.differences.specs.Differences.{boxes_of, list_of};
 ghost use Rattle.rect_list.specs.Rects.{Added};
 
-use differences::{Part, Parts};
+use differences::Parts;
 use geometry::Rect;
 
 // Appends a box to n others; the answer is how many there are then.
@@ -22,13 +22,13 @@ pub fn append(rects: &mut [f64], n: usize, rect: Rect) -> usize
 }
 
 // Appends a part, if it was kept.
-fn append_part(rects: &mut [f64], n: usize, part: Part) -> usize
+fn append_part(rects: &mut [f64], n: usize, part: Option<Rect>) -> usize
     requires { n < 9223372036854775808 }
     ensures { Added 1 rects.old n (boxes_of part) rects.new result }
 {
     match part {
-        Part::Kept(rect) => append(rects, n, rect),
-        Part::Dropped => n,
+        Some(rect) => append(rects, n, rect),
+        None => n,
     }
 }
 

@@ -12,8 +12,6 @@ use Rattle.strip_format.proofs.Lengths.{length_run}
 use Rattle.little_endian.specs.Words.{u16_at}
 use Rattle.geometry.specs.declared.Rect.{Rect}
 use Rattle.geometry.specs.Boxes.{union}
-use Rattle.affine.specs.declared.Transformed.{Transformed}
-use Rattle.affine.specs.declared.Transformed.TheVariants.{Finite, NotFinite}
 use Rattle.affine.specs.Affines.{try_transform}
 use Rattle.commands.specs.Bounds.{transform_of}
 use Rattle.strip_format.specs.Format.{length_of, rect_at, command_at}
@@ -21,6 +19,7 @@ use Rattle.operand_checks.specs.Operands.{operands_at}
 use Rattle.strip.specs.declared.Cursor.{Cursor}
 use Rattle.strip.specs.declared.Step.TheVariants.{Clip, Pop, Refused}
 use Rattle.strip.specs.Steps.{due_fits, on_box, clip_step, pop_step, draw_step, run_step, announced, announce, Draws, unite, last_step, glyph_step, end_step, effect_of, step_at}
+use Rattle.std.specs.Prelude.{Option, Some, None}
 
 -- a GLYPH that may stand here is due
 pub due_glyph : (b due : ℕ) → b ≡ 6 → due_fits b due ≡ true → 0 < due
@@ -62,19 +61,19 @@ module _ (s : List ℕ) (st : Cursor) where
   unite_more box u e h = e ∙ rw (ne_eqb st.at (st.run + 103) h)
 
   -- the run's affine, as the code reads it, and what it makes of a box
-  module _ (b : Rect) (r : Transformed) (e : r ≡ try_transform (transform_of (command_at s st.run)) b) where
+  module _ (b : Rect) (r : Option Rect) (e : r ≡ try_transform (transform_of (command_at s st.run)) b) where
     glyph_by : b ≡ rect_at s (st.at + 13) → st.glyphs < 16384 → glyph_step s st ≡ on_box st.at r (λ own. last_step s st b)
     unfolding glyph_step
     glyph_by u h =
         rw (lt-leb 16384 st.glyphs h) refl
         ∙ ap (λ (v : Rect). on_box st.at (try_transform (transform_of (command_at s st.run)) v) (λ own. last_step s st v)) (sym u)
-        ∙ ap (λ (t : Transformed). on_box st.at t (λ own. last_step s st b)) (sym e)
+        ∙ ap (λ (t : Option Rect). on_box st.at t (λ own. last_step s st b)) (sym e)
 
-    pub glyph_box : (own : Rect) → b ≡ rect_at s (st.at + 13) → st.glyphs < 16384 → r ≡ Finite own → last_step s st b ≡ glyph_step s st
-    glyph_box own u h k = sym (glyph_by u h ∙ ap (λ (t : Transformed). on_box st.at t (λ own. last_step s st b)) k)
+    pub glyph_box : (own : Rect) → b ≡ rect_at s (st.at + 13) → st.glyphs < 16384 → r ≡ Some own → last_step s st b ≡ glyph_step s st
+    glyph_box own u h k = sym (glyph_by u h ∙ ap (λ (t : Option Rect). on_box st.at t (λ own. last_step s st b)) k)
 
-    pub glyph_not_finite : b ≡ rect_at s (st.at + 13) → st.glyphs < 16384 → r ≡ NotFinite → Refused 9 st.at ≡ glyph_step s st
-    glyph_not_finite u h k = sym (glyph_by u h ∙ ap (λ (t : Transformed). on_box st.at t (λ own. last_step s st b)) k)
+    pub glyph_not_finite : b ≡ rect_at s (st.at + 13) → st.glyphs < 16384 → r ≡ None → Refused 9 st.at ≡ glyph_step s st
+    glyph_not_finite u h k = sym (glyph_by u h ∙ ap (λ (t : Option Rect). on_box st.at t (λ own. last_step s st b)) k)
 
   pub glyph_many : 16384 ≤ st.glyphs → Refused 6 st.at ≡ glyph_step s st
   unfolding glyph_step

@@ -10,8 +10,6 @@ use borrow.Author.Tests.{ltb-true, ltb-false, eqb-true}
 use Rattle.lists.proofs.Picks.{pick_cases}
 use Rattle.little_endian.specs.Words.{u16_at}
 use Rattle.geometry.specs.declared.Rect.{Rect}
-use Rattle.affine.specs.declared.Transformed.{Transformed}
-use Rattle.affine.specs.declared.Transformed.TheVariants.{Finite, NotFinite}
 use Rattle.affine.specs.Affines.{try_transform}
 use Rattle.commands.specs.Bounds.{transform_of, try_with}
 use Rattle.strip_format.specs.Format.{length_of, rect_at, command_at}
@@ -24,6 +22,7 @@ use Rattle.strip.specs.declared.Answer.{Answer}
 use Rattle.strip.specs.declared.Answer.TheVariants.{Read, Refused as TurnedAway}
 use Rattle.strip.specs.Steps.{start_at, due_fits, on_box, clip_step, pop_step, drawn, draw_step, run_step, unite, glyph_read, last_step, glyph_step, effect_of, step_at}
 use Rattle.strip.specs.Reading.{on_step, read_from, read_strip}
+use Rattle.std.specs.Prelude.{Option, Some, None}
 
 -- past a byte, and not past the n bytes there are
 abbrev pub Ahead : ℕ → Cursor → Cursor → Type 0
@@ -38,9 +37,9 @@ Moved n st (End t) = Ahead n st t
 Moved n st (Refused k p) = Unit {0}
 
 module _ (n : ℕ) (st : Cursor) where
-  on_box_lem : (at : ℕ) (r : Transformed) (k : Rect → Step) → ((box : Rect) → Moved n st (k box)) → Moved n st (on_box at r k)
-  on_box_lem at (Finite box) k h = h box
-  on_box_lem at NotFinite k h = tt
+  on_box_lem : (at : ℕ) (r : Option Rect) (k : Rect → Step) → ((box : Rect) → Moved n st (k box)) → Moved n st (on_box at r k)
+  on_box_lem at (Some box) k h = h box
+  on_box_lem at None k h = tt
 
   clip_moves : (s : List ℕ) → st.at + 33 ≤ n → Moved n st (clip_step s st)
   unfolding clip_step

@@ -10,8 +10,6 @@ use Rattle.lists.specs.Pick.{pick}
 use Rattle.lists.proofs.Picks.{pick_true, pick_false, pick_map}
 use Rattle.geometry.specs.declared.Rect.{Rect}
 use Rattle.affine.specs.declared.Affine.{Affine}
-use Rattle.affine.specs.declared.Transformed.{Transformed}
-use Rattle.affine.specs.declared.Transformed.TheVariants.{Finite, NotFinite}
 use Rattle.affine.specs.Affines.{finite_corners, try_transform}
 use Rattle.affine.proofs.Answers.{corners_yes, corners_no}
 use Rattle.commands.specs.Bounds.{transform_of}
@@ -25,14 +23,15 @@ use Rattle.strip.specs.declared.Step.TheVariants.{Next, Draw, Refused}
 use Rattle.strip.specs.Steps.{due_fits, on_box, drawn, draw_step, glyph_read, last_step, glyph_step, step_at}
 use Rattle.strip.specs.Effects.{settled, draw_effect, last_effect, OwnBounds, GoesOn, Moves, Passes}
 use Rattle.strip.proofs.Effects.{glyph_box, glyph_not_finite, effect_glyph, step_effect}
+use Rattle.std.specs.Prelude.{Option, Some, None}
 
 -- ---- an effect that was taken apart
-module _ (e : Effect) (t : Cursor) (o at : ℕ) (m : Affine) (b : Rect) (r : Transformed) (p : e ≡ Drawn t o at m b) (q : r ≡ try_transform m b) where
-  pub settled_box : (w : Rect) → r ≡ Finite w → Draw t o w ≡ settled e
-  settled_box w f = sym (ap settled p ∙ ap (λ (x : Transformed). on_box at x (λ v. Draw t o v)) (sym q ∙ f))
+module _ (e : Effect) (t : Cursor) (o at : ℕ) (m : Affine) (b : Rect) (r : Option Rect) (p : e ≡ Drawn t o at m b) (q : r ≡ try_transform m b) where
+  pub settled_box : (w : Rect) → r ≡ Some w → Draw t o w ≡ settled e
+  settled_box w f = sym (ap settled p ∙ ap (λ (x : Option Rect). on_box at x (λ v. Draw t o v)) (sym q ∙ f))
 
-  pub settled_not_finite : r ≡ NotFinite → Refused 9 at ≡ settled e
-  settled_not_finite f = sym (ap settled p ∙ ap (λ (x : Transformed). on_box at x (λ v. Draw t o v)) (sym q ∙ f))
+  pub settled_not_finite : r ≡ None → Refused 9 at ≡ settled e
+  settled_not_finite f = sym (ap settled p ∙ ap (λ (x : Option Rect). on_box at x (λ v. Draw t o v)) (sym q ∙ f))
 
 -- ---- the last glyph of a run, and one that is not
 module _ (st : Cursor) (m : Affine) (b : Rect) where

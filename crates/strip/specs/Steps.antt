@@ -1,13 +1,11 @@
 -- One step of reading: the command at the cursor is turned away, or the cursor moves past it. The checks stand in the table's order.
-use Rattle.std.specs.Prelude.{◌≡◌, Bool, List, ℕ, ◌+◌, ◌-◌, leb, ltb, eqb, length, get_or}
+use Rattle.std.specs.Prelude.{◌≡◌, Bool, List, ℕ, ◌+◌, ◌-◌, leb, ltb, eqb, length, get_or, Option, Some, None}
 use Rattle.std.specs.Float.{binary64}
 use Rattle.std.specs.Float.Ieee.{of_bits}
 use Rattle.lists.specs.Pick.{pick}
 use Rattle.little_endian.specs.Words.{u16_at}
 use Rattle.geometry.specs.declared.Rect.{Rect}
 use Rattle.geometry.specs.Boxes.{union}
-use Rattle.affine.specs.declared.Transformed.{Transformed}
-use Rattle.affine.specs.declared.Transformed.TheVariants.{Finite, NotFinite}
 use Rattle.affine.specs.Affines.{try_transform}
 use Rattle.commands.specs.Bounds.{transform_of, try_with}
 use Rattle.strip_format.specs.Format.{length_of, rect_at, command_at}
@@ -25,9 +23,9 @@ unfoldable pub due_fits : ℕ → ℕ → Bool
 due_fits b due = pick (eqb b 6) (ltb 0 due) (eqb due 0)
 
 -- 9: "a box's inflated edge or transformed corner is not finite"
-abbrev pub on_box : ℕ → Transformed → (Rect → Step) → Step
-on_box at (Finite box) k = k box
-on_box at NotFinite k = Refused 9 at
+abbrev pub on_box : ℕ → Option Rect → (Rect → Step) → Step
+on_box at (Some box) k = k box
+on_box at None k = Refused 9 at
 
 -- CLIP. 6: "33rd open clip, 4,097th clip pushed"
 unfoldable pub clip_step : List ℕ → Cursor → Step

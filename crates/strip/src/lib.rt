@@ -9,7 +9,7 @@ ghost use Rattle.strip.specs.Steps as Steps;
 ghost use Rattle.strip.specs.Reading as Reading;
 ghost use Rattle.strip.specs.Effects.{settled, draw_effect, last_effect, Stands, DrawsAt, affine_offset, rect_offset, OwnBounds, GlyphDue, GoesOn, NearGoesOn, NearRun, Passes};
 
-use affine::{Affine, Transformed};
+use affine::Affine;
 use geometry::Rect;
 
 mod reader;
@@ -313,8 +313,8 @@ fn settle(effect: Effect) -> Step
     match effect {
         Effect::Drawn(next, offset, at, transform, bounds) => {
             match transform.try_transform(bounds) {
-                Transformed::Finite(transformed) => Step::Draw(next, offset, transformed),
-                Transformed::NotFinite => Step::Refused(9, at),
+                Some(transformed) => Step::Draw(next, offset, transformed),
+                None => Step::Refused(9, at),
             }
         }
         Effect::Done(step) => step,

@@ -9,7 +9,6 @@ use Rattle.lists.specs.Members.{All}
 use Rattle.lists.proofs.Members.{all_map, all_append, all_take}
 use Rattle.geometry.specs.declared.Rect.{Rect}
 use Rattle.geometry.proofs.Edges.{Edges}
-use Rattle.affine.specs.declared.Transformed.TheVariants.{Finite}
 use Rattle.affine.specs.Affines.{try_transform}
 use Rattle.commands.specs.declared.Glyph.{Glyph}
 use Rattle.commands.specs.declared.DrawCommand.{DrawCommand}
@@ -27,6 +26,7 @@ use Rattle.strip.specs.Reading.{command_of, Listing, noted, commands_of}
 use Rattle.strip_laws.proofs.Steps.{Alone, by_cases, list_keeps}
 use Rattle.strip_laws.proofs.Runs.{Shown, Behind, none_shown, unite_is, next_shown, InRun, step_in_run}
 use Rattle.strip_laws.proofs.Numbers.{one_rect, Opens, step_opens}
+use Rattle.std.specs.Prelude.{Some}
 
 -- the glyphs of the command at an offset
 abbrev pub glyphs_of : List ℕ → ℕ → List Glyph
@@ -37,7 +37,7 @@ abbrev pub Boxed : List ℕ → Step → Type 0
 Boxed s (Next t) = Unit {0}
 Boxed s (Clip t box) = Unit {0}
 Boxed s (Pop t) = Unit {0}
-Boxed s (Draw t at box) = try_transform (transform_of (command_at s at)) (local_bounds (command_at s at) (glyphs_of s at)) ≡ Finite box
+Boxed s (Draw t at box) = try_transform (transform_of (command_at s at)) (local_bounds (command_at s at) (glyphs_of s at)) ≡ Some box
 Boxed s (End t) = Unit {0}
 Boxed s (Refused n p) = Unit {0}
 
@@ -45,7 +45,7 @@ no_glyphs : (s : List ℕ) (at : ℕ) → glyphs_from s at 0 ≡ []
 unfolding glyphs_from
 no_glyphs s at = refl
 
-alone_box : (s : List ℕ) (at : ℕ) (u box : Rect) → Alone s at → try_with (command_at s at) u ≡ Finite box → try_transform (transform_of (command_at s at)) (local_bounds (command_at s at) (glyphs_of s at)) ≡ Finite box
+alone_box : (s : List ℕ) (at : ℕ) (u box : Rect) → Alone s at → try_with (command_at s at) u ≡ Some box → try_transform (transform_of (command_at s at)) (local_bounds (command_at s at) (glyphs_of s at)) ≡ Some box
 alone_box s at u box alone f =
     let g : glyphs_of s at ≡ [] = ap (glyphs_from s (at + 103)) alone.none ∙ no_glyphs s (at + 103) in
     let l : local_with (command_at s at) u ≡ local_bounds (command_at s at) [] = local_is (command_at s at) u u [] alone.none (λ h. absurd (omega arith)) in

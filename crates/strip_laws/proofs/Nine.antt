@@ -11,8 +11,6 @@ use borrow.Author.Tests.{lt-leb, leb-true, leb-false, ltb-true, ltb-false, eq-eq
 use Rattle.lists.proofs.Picks.{pick_true, pick_false, pick_cases}
 use Rattle.little_endian.specs.Words.{u16_at}
 use Rattle.geometry.specs.declared.Rect.{Rect}
-use Rattle.affine.specs.declared.Transformed.{Transformed}
-use Rattle.affine.specs.declared.Transformed.TheVariants.{Finite, NotFinite}
 use Rattle.affine.specs.Affines.{try_transform}
 use Rattle.affine.specs.Unbounded.{UnboundedBox}
 use Rattle.affine.proofs.Unbounded.{unbounded_no_box, no_box_unbounded}
@@ -29,6 +27,7 @@ use Rattle.strip.specs.Steps.{due_fits, on_box, clip_step, pop_step, drawn, draw
 use Rattle.strip.proofs.Effects.{effect_glyph, draws_whole, step_effect}
 use Rattle.strip_laws.specs.Nine.{byte_at, NoneBefore, DrawnUnbounded, GlyphUnbounded, Nine}
 use Rattle.strip_laws.proofs.Steps.{run_count, no_count}
+use Rattle.std.specs.Prelude.{Option, Some, None}
 
 -- the number and the position that a step refuses with; 0 where it refuses nothing
 abbrev number_in : Step → ℕ
@@ -63,9 +62,9 @@ module _ (s : List ℕ) (st : Cursor) where
   abbrev Told : Step → Type 0
   Told x = number_in x ≡ 9 → (place_in x ≡ st.at) × (NoneBefore s st × Nine s st)
 
-  on_box_lem : (r : Transformed) (k : Rect → Step) → (r ≡ NotFinite → NoneBefore s st × Nine s st) → ((box : Rect) → Told (k box)) → Told (on_box st.at r k)
-  on_box_lem (Finite box) k f g = g box
-  on_box_lem NotFinite k f g = λ e. (refl, f refl)
+  on_box_lem : (r : Option Rect) (k : Rect → Step) → (r ≡ None → NoneBefore s st × Nine s st) → ((box : Rect) → Told (k box)) → Told (on_box st.at r k)
+  on_box_lem (Some box) k f g = g box
+  on_box_lem None k f g = λ e. (refl, f refl)
 
   module _ (byte : st.at < length s) (known : byte_at s st ≤ 7) (due : due_fits (byte_at s st) st.due ≡ true) (room : st.at + length_of (byte_at s st) ≤ length s) (operands : operands_at s st.at (byte_at s st) ≡ 0) where
     drawn_told : (len : ℕ) → Draws (byte_at s st) → announced s st.at (byte_at s st) ≡ 0 → Told (draw_step s st len)
@@ -134,7 +133,7 @@ module _ (s : List ℕ) (st : Cursor) where
         effect_is
         ∙ sym (draws_whole s st (byte_at s st) _ d refl (count_is s st.at w.room ∙ u.0))
         ∙ pick_false (leb 4096 st.commands) _ _ (lt-leb 4096 st.commands (w.commands d))
-        ∙ ap (λ (r : Transformed). on_box st.at r (λ box. Draw (drawn st (length_of (byte_at s st)) 0) st.at box)) (ap (λ (b : Rect). try_transform (transform_of (command_at s st.at)) b) (own_is s st.at st.united u.0) ∙ unbounded_no_box _ _ u.1)
+        ∙ ap (λ (r : Option Rect). on_box st.at r (λ box. Draw (drawn st (length_of (byte_at s st)) 0) st.at box)) (ap (λ (b : Rect). try_transform (transform_of (command_at s st.at)) b) (own_is s st.at st.united u.0) ∙ unbounded_no_box _ _ u.1)
 
     own_glyph : byte_at s st ≡ 6 → step_at s st ≡ on_box st.at (try_transform (transform_of (command_at s st.run)) (rect_at s (st.at + 13))) (λ own. last_step s st (rect_at s (st.at + 13)))
     unfolding glyph_step
@@ -144,16 +143,16 @@ module _ (s : List ℕ) (st : Cursor) where
     unfolding last_step
     last_nine one u =
         pick_true (eqb st.due 1) _ _ (eq-eqb _ _ one)
-        ∙ ap (λ (r : Transformed). on_box st.at r (λ whole. Draw (glyph_read st (rect_at s (st.at + 13))) st.run whole)) (unbounded_no_box _ _ u)
+        ∙ ap (λ (r : Option Rect). on_box st.at r (λ whole. Draw (glyph_read st (rect_at s (st.at + 13))) st.run whole)) (unbounded_no_box _ _ u)
 
     glyph_nine : byte_at s st ≡ 6 → GlyphUnbounded s st → step_at s st ≡ Refused 9 st.at
-    glyph_nine six (inl u) = own_glyph six ∙ ap (λ (r : Transformed). on_box st.at r (λ own. last_step s st (rect_at s (st.at + 13)))) (unbounded_no_box _ _ u)
+    glyph_nine six (inl u) = own_glyph six ∙ ap (λ (r : Option Rect). on_box st.at r (λ own. last_step s st (rect_at s (st.at + 13)))) (unbounded_no_box _ _ u)
     glyph_nine six (inr (one, u)) = own_glyph six ∙ either (try_transform (transform_of (command_at s st.run)) (rect_at s (st.at + 13)))
       where
         -- whatever its own box comes to
-        either : (r : Transformed) → on_box st.at r (λ own. last_step s st (rect_at s (st.at + 13))) ≡ Refused 9 st.at
-        either (Finite own) = last_nine one u
-        either NotFinite = refl
+        either : (r : Option Rect) → on_box st.at r (λ own. last_step s st (rect_at s (st.at + 13))) ≡ Refused 9 st.at
+        either (Some own) = last_nine one u
+        either None = refl
 
     pub nine_given : Nine s st → step_at s st ≡ Refused 9 st.at
     nine_given (inl (d, u)) = drawn_nine d u

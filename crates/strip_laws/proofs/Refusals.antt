@@ -8,8 +8,6 @@ use borrow.Author.Tests.{eqb-false}
 use Rattle.lists.proofs.Picks.{pick_cases}
 use Rattle.little_endian.specs.Words.{u16_at}
 use Rattle.geometry.specs.declared.Rect.{Rect}
-use Rattle.affine.specs.declared.Transformed.{Transformed}
-use Rattle.affine.specs.declared.Transformed.TheVariants.{Finite, NotFinite}
 use Rattle.affine.specs.Affines.{try_transform}
 use Rattle.commands.specs.Bounds.{transform_of, try_with}
 use Rattle.strip_format.specs.Format.{length_of, rect_at, command_at}
@@ -21,6 +19,7 @@ use Rattle.strip.specs.declared.Answer.{Answer}
 use Rattle.strip.specs.declared.Answer.TheVariants.{Read, Refused as TurnedAway}
 use Rattle.strip.specs.Steps.{start_at, due_fits, on_box, clip_step, pop_step, drawn, draw_step, run_step, unite, glyph_read, last_step, glyph_step, effect_of, step_at}
 use Rattle.strip.specs.Reading.{on_step, read_from, read_strip}
+use Rattle.std.specs.Prelude.{Option, Some, None}
 
 abbrev Numbered : Step → Type 0
 Numbered (Next t) = Unit {0}
@@ -36,9 +35,9 @@ NumberedAnswer (Read t) = Unit {0}
 NumberedAnswer (TurnedAway n p) = 0 < n
 
 -- ---- one step
-on_numbered : (at : ℕ) (r : Transformed) (k : Rect → Step) → ((box : Rect) → Numbered (k box)) → Numbered (on_box at r k)
-on_numbered at (Finite box) k f = f box
-on_numbered at NotFinite k f = omega arith
+on_numbered : (at : ℕ) (r : Option Rect) (k : Rect → Step) → ((box : Rect) → Numbered (k box)) → Numbered (on_box at r k)
+on_numbered at (Some box) k f = f box
+on_numbered at None k f = omega arith
 
 module _ (s : List ℕ) (st : Cursor) where
   draw_numbered : (len : ℕ) → Numbered (draw_step s st len)

@@ -11,7 +11,6 @@ use Rattle.lists.proofs.Members.{all_append}
 use Rattle.lists.proofs.Picks.{pick_true, pick_false}
 use Rattle.geometry.specs.declared.Rect.{Rect}
 use Rattle.geometry.specs.Boxes.{union}
-use Rattle.affine.specs.declared.Transformed.TheVariants.{Finite}
 use Rattle.affine.specs.Affines.{try_transform}
 use Rattle.commands.specs.declared.Glyph.{Glyph}
 use Rattle.commands.specs.declared.DrawCommand.{DrawCommand}
@@ -25,10 +24,11 @@ use Rattle.strip.specs.declared.Step.TheVariants.{Next, Clip, Pop, Draw, End, Re
 use Rattle.strip.specs.Steps.{unite, step_at}
 use Rattle.strip_laws.specs.Limits.{Whole}
 use Rattle.strip_laws.proofs.Steps.{run_count, by_cases, Kept}
+use Rattle.std.specs.Prelude.{Some}
 
 -- a glyph whose box has finite corners under a command's affine
 abbrev pub Shown : DrawCommand → Glyph → Type 0
-Shown d g = (b : Rect) × (try_transform (transform_of d) g.bounds ≡ Finite b)
+Shown d g = (b : Rect) × (try_transform (transform_of d) g.bounds ≡ Some b)
 
 -- the cursor stands behind some of a run's glyphs, and the rest are due
 pub record Behind (s : List ℕ) (st : Cursor) : Type 0 where
@@ -55,7 +55,7 @@ unfolding glyphs_from
 glyphs_length s zero at = refl
 glyphs_length s (suc k) at = ap suc (glyphs_length s k (at + 45))
 
-one_shown : (d : DrawCommand) (g : Glyph) (b : Rect) → try_transform (transform_of d) g.bounds ≡ Finite b → All (Shown d) (g ∷ [])
+one_shown : (d : DrawCommand) (g : Glyph) (b : Rect) → try_transform (transform_of d) g.bounds ≡ Some b → All (Shown d) (g ∷ [])
 unfolding All
 one_shown d g b e = ((b, e), tt)
 
@@ -79,10 +79,10 @@ module _ (s : List ℕ) (st : Cursor) (b : Behind s st) where
           ∙ sym (ap (united (rect_at s (st.run + 69))) (glyph_last s (suc k) (st.run + 103)))
 
   -- the glyphs before, and the one at the cursor
-  pub next_shown : (own : Rect) → try_transform (transform_of (command_at s st.run)) (rect_at s (st.at + 13)) ≡ Finite own → All (Shown (command_at s st.run)) (glyphs_from s (st.run + 103) (suc b.read))
+  pub next_shown : (own : Rect) → try_transform (transform_of (command_at s st.run)) (rect_at s (st.at + 13)) ≡ Some own → All (Shown (command_at s st.run)) (glyphs_from s (st.run + 103) (suc b.read))
   next_shown own o =
       let e = glyph_last s b.read (st.run + 103) in
-      let at-end : try_transform (transform_of (command_at s st.run)) (rect_at s (st.run + 103 + 45 * b.read + 13)) ≡ Finite own = ap (λ (x : ℕ). try_transform (transform_of (command_at s st.run)) (rect_at s (x + 13))) (sym b.stands) ∙ o in
+      let at-end : try_transform (transform_of (command_at s st.run)) (rect_at s (st.run + 103 + 45 * b.read + 13)) ≡ Some own = ap (λ (x : ℕ). try_transform (transform_of (command_at s st.run)) (rect_at s (x + 13))) (sym b.stands) ∙ o in
       subst (All (Shown (command_at s st.run))) (sym e) (all_append (Shown (command_at s st.run)) (glyphs_from s (st.run + 103) b.read) (glyph_at s (st.run + 103 + 45 * b.read) ∷ []) b.shown (one_shown (command_at s st.run) (glyph_at s (st.run + 103 + 45 * b.read)) own at-end))
 
 abbrev pub InRun : List ℕ → Cursor → Type 0

@@ -13,8 +13,6 @@ use Rattle.lists.specs.Pick.{pick}
 use Rattle.lists.proofs.Picks.{pick_cases}
 use Rattle.geometry.specs.declared.Rect.{Rect}
 use Rattle.geometry.specs.Boxes.{union}
-use Rattle.affine.specs.declared.Transformed.{Transformed}
-use Rattle.affine.specs.declared.Transformed.TheVariants.{Finite, NotFinite}
 use Rattle.affine.specs.Affines.{try_transform}
 use Rattle.commands.specs.Bounds.{transform_of, try_with}
 use Rattle.little_endian.specs.Words.{u16_at}
@@ -31,6 +29,7 @@ use Rattle.strip_laws.proofs.Runs.{InRun}
 use Rattle.little_endian.proofs.Alike.{u16_same}
 use Rattle.strip_format.proofs.Alike.{rect_same}
 use Rattle.strip_laws.proofs.Alike.{command_same, operands_same}
+use Rattle.std.specs.Prelude.{Option, Some, None}
 
 -- ---- what is the same
 -- the same cursor, `by` bytes further on; where no glyph is due it does not matter where the last run began
@@ -88,12 +87,12 @@ module _ (s r : List ℕ) (by : ℕ) (same : (i j : ℕ) → j ≡ by + i → i 
     abbrev R : Step → Step → Type 0
     R x y = StepAlike by x y
 
-    boxes : (x y : Transformed) (k j : Rect → Step) → y ≡ x → ((box : Rect) → R (k box) (j box)) → R (on_box st.at x k) (on_box to.at y j)
-    boxes x y k j f g = subst (λ (z : Transformed). R (on_box st.at x k) (on_box to.at z j)) (sym f) (go x)
+    boxes : (x y : Option Rect) (k j : Rect → Step) → y ≡ x → ((box : Rect) → R (k box) (j box)) → R (on_box st.at x k) (on_box to.at y j)
+    boxes x y k j f g = subst (λ (z : Option Rect). R (on_box st.at x k) (on_box to.at z j)) (sym f) (go x)
       where
-        go : (z : Transformed) → R (on_box st.at z k) (on_box to.at z j)
-        go (Finite box) = g box
-        go NotFinite = turns e.at_is
+        go : (z : Option Rect) → R (on_box st.at z k) (on_box to.at z j)
+        go (Some box) = g box
+        go None = turns e.at_is
 
     end_alike : R (end_step st) (end_step to)
     end_alike = ends {c = past st} {d = past to} (record { at_is = omega (arith, e.at_is); depth_is = e.depth_is; clips_are = e.clips_are; commands_are = e.commands_are; glyphs_are = e.glyphs_are; due_is = e.due_is; run_is = e.run_is; united_is = e.united_is })

@@ -10,8 +10,6 @@ use borrow.Author.Tests.{le-leb, leb-false, ltb-true, ltb-false, eqb-true, eqb-f
 use Rattle.lists.proofs.Picks.{pick_false, pick_cases}
 use Rattle.little_endian.specs.Words.{u16_at}
 use Rattle.geometry.specs.declared.Rect.{Rect}
-use Rattle.affine.specs.declared.Transformed.{Transformed}
-use Rattle.affine.specs.declared.Transformed.TheVariants.{Finite, NotFinite}
 use Rattle.affine.specs.Affines.{try_transform}
 use Rattle.commands.specs.declared.DrawCommand.{DrawCommand}
 use Rattle.commands.specs.Bounds.{transform_of, glyph_count, try_with}
@@ -26,6 +24,7 @@ use Rattle.strip.specs.Steps.{due_fits, on_box, clip_step, pop_step, drawn, draw
 use Rattle.strip.proofs.Effects.{due_glyph}
 use Rattle.strip.specs.Reading.{on_step, read_from, Listing, noted, on_next, list_from}
 use Rattle.strip_laws.specs.Limits.{WhereRead}
+use Rattle.std.specs.Prelude.{Option, Some, None}
 
 -- ---- case by case
 -- the cursor behind a CLIP, and behind a POP
@@ -69,15 +68,15 @@ pub record Cases (s : List ℕ) (st : Cursor) (M : Step → Type 0) : Type 0 whe
   pub ended : st.due ≡ 0 → M (end_step st)
   pub clip : st.depth < 32 → st.clips < 4096 → st.due ≡ 0 → M (Clip (opened st) (rect_at s (st.at + 1)))
   pub pop : (st.depth ≡ 0 → ⊥) → st.due ≡ 0 → M (Pop (closed st))
-  pub draw : (len : ℕ) → st.commands < 4096 → st.due ≡ 0 → Alone s st.at → (box : Rect) → try_with (command_at s st.at) st.united ≡ Finite box → M (Draw (drawn st len 0) st.at box)
+  pub draw : (len : ℕ) → st.commands < 4096 → st.due ≡ 0 → Alone s st.at → (box : Rect) → try_with (command_at s st.at) st.united ≡ Some box → M (Draw (drawn st len 0) st.at box)
   pub run : st.commands < 4096 → st.due ≡ 0 → get_or s st.at 0 ≡ 5 → st.at + 103 ≤ length s → (u16_at s (st.at + 101) ≡ 0 → ⊥) → M (Next (drawn st 103 (u16_at s (st.at + 101))))
-  pub glyph : st.glyphs < 16384 → 0 < st.due → st.at + 45 ≤ length s → (st.due ≡ 1 → ⊥) → (own : Rect) → try_transform (transform_of (command_at s st.run)) (rect_at s (st.at + 13)) ≡ Finite own → M (Next (glyph_read st (rect_at s (st.at + 13))))
-  pub last : st.glyphs < 16384 → st.at + 45 ≤ length s → st.due ≡ 1 → (own : Rect) → try_transform (transform_of (command_at s st.run)) (rect_at s (st.at + 13)) ≡ Finite own → (box : Rect) → try_transform (transform_of (command_at s st.run)) (unite st (rect_at s (st.at + 13))) ≡ Finite box → M (Draw (glyph_read st (rect_at s (st.at + 13))) st.run box)
+  pub glyph : st.glyphs < 16384 → 0 < st.due → st.at + 45 ≤ length s → (st.due ≡ 1 → ⊥) → (own : Rect) → try_transform (transform_of (command_at s st.run)) (rect_at s (st.at + 13)) ≡ Some own → M (Next (glyph_read st (rect_at s (st.at + 13))))
+  pub last : st.glyphs < 16384 → st.at + 45 ≤ length s → st.due ≡ 1 → (own : Rect) → try_transform (transform_of (command_at s st.run)) (rect_at s (st.at + 13)) ≡ Some own → (box : Rect) → try_transform (transform_of (command_at s st.run)) (unite st (rect_at s (st.at + 13))) ≡ Some box → M (Draw (glyph_read st (rect_at s (st.at + 13))) st.run box)
 
 module _ (s : List ℕ) (st : Cursor) (M : Step → Type 0) (cases : Cases s st M) where
-  on_box_lem : (r : Transformed) (k : Rect → Step) → ((box : Rect) → r ≡ Finite box → M (k box)) → M (on_box st.at r k)
-  on_box_lem (Finite box) k h = h box refl
-  on_box_lem NotFinite k h = cases.refused 9 st.at
+  on_box_lem : (r : Option Rect) (k : Rect → Step) → ((box : Rect) → r ≡ Some box → M (k box)) → M (on_box st.at r k)
+  on_box_lem (Some box) k h = h box refl
+  on_box_lem None k h = cases.refused 9 st.at
 
   of_clip : st.due ≡ 0 → M (clip_step s st)
   unfolding clip_step
@@ -101,7 +100,7 @@ module _ (s : List ℕ) (st : Cursor) (M : Step → Type 0) (cases : Cases s st 
       pick_cases M (eqb (u16_at s (st.at + 101)) 0) _ _ (λ e. of_draw 103 due record { fits = subst (λ (y : ℕ). st.at + length_of y ≤ length s) (sym is) (omega (arith, length_run)); none = run_count s st.at is fits ∙ eqb-true (u16_at s (st.at + 101)) 0 e })
       λ z. pick_cases M (leb 4096 st.commands) _ _ (λ e. cases.refused 6 st.at) (λ e. cases.run (leb-false 4096 st.commands e) due is fits (eqb-false (u16_at s (st.at + 101)) 0 z))
 
-  of_last : st.glyphs < 16384 → 0 < st.due → st.at + 45 ≤ length s → (own : Rect) → try_transform (transform_of (command_at s st.run)) (rect_at s (st.at + 13)) ≡ Finite own → M (last_step s st (rect_at s (st.at + 13)))
+  of_last : st.glyphs < 16384 → 0 < st.due → st.at + 45 ≤ length s → (own : Rect) → try_transform (transform_of (command_at s st.run)) (rect_at s (st.at + 13)) ≡ Some own → M (last_step s st (rect_at s (st.at + 13)))
   unfolding last_step
   of_last h due fits own o =
       pick_cases M (eqb st.due 1) _ _

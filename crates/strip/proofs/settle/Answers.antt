@@ -1,8 +1,8 @@
 use Rattle.strip.proofs.Settled.{settled_box, settled_not_finite}
 use Rattle.strip.proofs.settle.Goals as goal
 
-pub returns-in-Finite : goal.returns-in-Finite
-returns-in-Finite c = settled_box _ _ _ _ _ _ _ c.in-Drawn.is c.try_transform.ensures _ c.in-Finite.is
+pub returns-in-Some : goal.returns-in-Some
+returns-in-Some c = settled_box _ _ _ _ _ _ _ c.in-Drawn.is c.try_transform.ensures _ c.in-Some.is
 
-pub returns-in-NotFinite : goal.returns-in-NotFinite
-returns-in-NotFinite c = settled_not_finite _ _ _ _ _ _ _ c.in-Drawn.is c.try_transform.ensures c.in-NotFinite.is
+pub returns-in-None : goal.returns-in-None
+returns-in-None c = settled_not_finite _ _ _ _ _ _ _ c.in-Drawn.is c.try_transform.ensures c.in-None.is
