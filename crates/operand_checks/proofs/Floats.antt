@@ -7,23 +7,33 @@ use native.Mathlib.Omega.{arith}
 use lib.Ieee.{binary64, of_bits}
 use lib.Ieee.Scale.{finite}
 use lib.ListN.{get_or}
+use Rattle.std.specs.Prelude.{Result, Ok, Err}
+use Rattle.refusals.specs.declared.Fault.{Fault}
 use Rattle.lists.specs.Pick.{pick}
+use Rattle.refusals.specs.declared.Fault.TheVariants.{UnknownCode}
 use Rattle.little_endian.specs.Words.{u64_at}
 use Rattle.strip_format.specs.Finite.{FourFinite}
-use Rattle.operand_checks.specs.Operands.{finite_from, finite_f32, finite_stroke, finite_run, finite_glyph, codes_fit, operands_at}
+use Rattle.operand_checks.specs.Operands.{finite_from, finite_f32, finite_stroke, finite_run, finite_glyph, codes_fit, floats_pass, operands_at}
 
 both : (a b : Bool) → (a && b) ≡ true → (a ≡ true) × (b ≡ true)
 both true b e = (refl, e)
 both false b e = absurd (false≢true e)
 
--- a test by which the floats decide, and one by which the codes decide first
-floats_pass : (b : Bool) → ◌≡◌ {A = ℕ} (pick b 0 4) 0 → b ≡ true
-floats_pass true e = refl
-floats_pass false e = absurd (omega (arith, e))
+err_not_ok : {f : Fault} → ◌≡◌ {A = Result (Unit {0}) Fault} (Err f) (Ok tt) → ⊥
+err_not_ok e = subst Turned e tt
+  where
+    Turned : Result (Unit {0}) Fault → Type 0
+    Turned (Ok u) = ⊥
+    Turned (Err f) = Unit {0}
 
-codes_pass : (codes floats : Bool) → ◌≡◌ {A = ℕ} (pick codes (pick floats 0 4) 3) 0 → floats ≡ true
-codes_pass true floats e = floats_pass floats e
-codes_pass false floats e = absurd (omega (arith, e))
+-- floats that pass, and a test by which the codes decide first
+finite_pass : (t : Bool) → floats_pass t ≡ Ok tt → t ≡ true
+finite_pass true e = refl
+finite_pass false e = absurd (err_not_ok e)
+
+codes_pass : (codes t : Bool) → pick codes (floats_pass t) (Err UnknownCode) ≡ Ok tt → t ≡ true
+codes_pass true t e = finite_pass t e
+codes_pass false t e = absurd (err_not_ok e)
 
 module _ (s : List ℕ) where
   -- the float at a place of a row that is finite
@@ -44,47 +54,47 @@ module _ (s : List ℕ) where
       }
 
   module _ (at : ℕ) where
-    fill_floats : operands_at s at 3 ≡ 0 → finite_from s (at + 9) 10 ≡ true
+    fill_floats : operands_at s at 3 ≡ Ok tt → finite_from s (at + 9) 10 ≡ true
     unfolding operands_at
-    fill_floats e = floats_pass _ e
+    fill_floats e = finite_pass _ e
 
-    stroke_floats : operands_at s at 4 ≡ 0 → finite_from s (at + 9) 10 ≡ true
+    stroke_floats : operands_at s at 4 ≡ Ok tt → finite_from s (at + 9) 10 ≡ true
     unfolding operands_at finite_stroke
     stroke_floats e = (both (finite_from s (at + 9) 10) _ (codes_pass (codes_fit (get_or s (at + 105) 0) (get_or s (at + 114) 0) (get_or s (at + 115) 0)) (finite_stroke s at) e)).0
 
-    run_floats : operands_at s at 5 ≡ 0 → (finite_from s (at + 13) 6 ≡ true) × (finite_from s (at + 69) 4 ≡ true)
+    run_floats : operands_at s at 5 ≡ Ok tt → (finite_from s (at + 13) 6 ≡ true) × (finite_from s (at + 69) 4 ≡ true)
     unfolding operands_at finite_run
-    run_floats e = both (finite_from s (at + 13) 6) (finite_from s (at + 69) 4) (both (finite_f32 s (at + 9)) (finite_from s (at + 13) 6 && finite_from s (at + 69) 4) (floats_pass (finite_run s at) e)).1
+    run_floats e = both (finite_from s (at + 13) 6) (finite_from s (at + 69) 4) (both (finite_f32 s (at + 9)) (finite_from s (at + 13) 6 && finite_from s (at + 69) 4) (finite_pass (finite_run s at) e)).1
 
-    scene_floats : operands_at s at 7 ≡ 0 → finite_from s (at + 25) 10 ≡ true
+    scene_floats : operands_at s at 7 ≡ Ok tt → finite_from s (at + 25) 10 ≡ true
     unfolding operands_at
-    scene_floats e = floats_pass _ e
+    scene_floats e = finite_pass _ e
 
     -- the box of a CLIP and of a GLYPH
-    pub clip_finite : operands_at s at 1 ≡ 0 → FourFinite s (at + 1)
+    pub clip_finite : operands_at s at 1 ≡ Ok tt → FourFinite s (at + 1)
     unfolding operands_at
-    clip_finite e = four_at (at + 1) 4 0 (at + 1) (floats_pass (finite_from s (at + 1) 4) e) (omega arith) (omega arith)
+    clip_finite e = four_at (at + 1) 4 0 (at + 1) (finite_pass (finite_from s (at + 1) 4) e) (omega arith) (omega arith)
 
     pub glyph_finite : finite_glyph s at ≡ true → FourFinite s (at + 13)
     unfolding finite_glyph
     glyph_finite e = four_at (at + 13) 4 0 (at + 13) (both (finite_f32 s (at + 9)) (finite_from s (at + 13) 4) (both (finite_f32 s (at + 5)) (finite_f32 s (at + 9) && finite_from s (at + 13) 4) e).1).1 (omega arith) (omega arith)
 
-    pub glyph_floats : operands_at s at 6 ≡ 0 → finite_glyph s at ≡ true
+    pub glyph_floats : operands_at s at 6 ≡ Ok tt → finite_glyph s at ≡ true
     unfolding operands_at
-    glyph_floats e = floats_pass (finite_glyph s at) e
+    glyph_floats e = finite_pass (finite_glyph s at) e
 
     -- box, and affine by its first and its last four floats, of each kind that draws
     path_finite : finite_from s (at + 9) 10 ≡ true → FourFinite s (at + 9) × FourFinite s (at + 41) × FourFinite s (at + 41 + 16)
     path_finite f = (four_at (at + 9) 10 0 (at + 9) f (omega arith) (omega arith), four_at (at + 9) 10 4 (at + 41) f (omega arith) (omega arith), four_at (at + 9) 10 6 (at + 41 + 16) f (omega arith) (omega arith))
 
-    pub fill_finite : operands_at s at 3 ≡ 0 → FourFinite s (at + 9) × FourFinite s (at + 41) × FourFinite s (at + 41 + 16)
+    pub fill_finite : operands_at s at 3 ≡ Ok tt → FourFinite s (at + 9) × FourFinite s (at + 41) × FourFinite s (at + 41 + 16)
     fill_finite e = path_finite (fill_floats e)
 
-    pub stroke_finite : operands_at s at 4 ≡ 0 → FourFinite s (at + 9) × FourFinite s (at + 41) × FourFinite s (at + 41 + 16)
+    pub stroke_finite : operands_at s at 4 ≡ Ok tt → FourFinite s (at + 9) × FourFinite s (at + 41) × FourFinite s (at + 41 + 16)
     stroke_finite e = path_finite (stroke_floats e)
 
-    pub run_finite : operands_at s at 5 ≡ 0 → FourFinite s (at + 69) × FourFinite s (at + 13) × FourFinite s (at + 13 + 16)
+    pub run_finite : operands_at s at 5 ≡ Ok tt → FourFinite s (at + 69) × FourFinite s (at + 13) × FourFinite s (at + 13 + 16)
     run_finite e = let f = run_floats e in (four_at (at + 69) 4 0 (at + 69) f.1 (omega arith) (omega arith), four_at (at + 13) 6 0 (at + 13) f.0 (omega arith) (omega arith), four_at (at + 13) 6 2 (at + 13 + 16) f.0 (omega arith) (omega arith))
 
-    pub scene_finite : operands_at s at 7 ≡ 0 → FourFinite s (at + 73) × FourFinite s (at + 25) × FourFinite s (at + 25 + 16)
+    pub scene_finite : operands_at s at 7 ≡ Ok tt → FourFinite s (at + 73) × FourFinite s (at + 25) × FourFinite s (at + 25 + 16)
     scene_finite e = let f = scene_floats e in (four_at (at + 25) 10 6 (at + 73) f (omega arith) (omega arith), four_at (at + 25) 10 0 (at + 25) f (omega arith) (omega arith), four_at (at + 25) 10 2 (at + 25 + 16) f (omega arith) (omega arith))

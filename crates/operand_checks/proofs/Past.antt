@@ -7,6 +7,8 @@ use native.Mathlib.Omega.{arith}
 use lib.Ieee.{binary32, of_bits}
 use lib.Ieee.Scale.{finite}
 use lib.ListN.{length, get_or}
+use Rattle.std.specs.Prelude.{Result, Ok}
+use Rattle.refusals.specs.declared.Fault.{Fault}
 use Rattle.lists.proofs.Picks.{pick_same}
 use Rattle.little_endian.proofs.Past.{byte_past, u32_past, u64_past}
 use Rattle.operand_checks.specs.Operands.{finite_from, finite_f32, finite_stroke, finite_run, finite_glyph, codes_fit, operands_at}
@@ -37,8 +39,8 @@ module _ (s : List ℕ) where
   unfolding codes_fit
   codes_past at p = rw (byte_past s (at + 105) (omega arith), byte_past s (at + 114) (omega arith), byte_past s (at + 115) (omega arith))
 
-  pub operands_past : (at b : ℕ) → length s ≤ at → operands_at s at b ≡ 0
+  pub operands_past : (at b : ℕ) → length s ≤ at → operands_at s at b ≡ Ok tt
   unfolding operands_at
   operands_past at b p =
       rw (from_past (at + 1) 4 (omega arith), from_past (at + 9) 10 (omega arith), codes_past at p, stroke_past at p, run_past at p, glyph_past at p, from_past (at + 25) 10 (omega arith))
-      (simp (pick_same {A = ℕ}))
+      (simp (pick_same {A = Result (Unit {0}) Fault}))

@@ -1,9 +1,11 @@
 -- When a command's operands are refused, once all their bytes are there: "join or cap code above 2" (3), then "a float is infinite or NaN" (4).
-use Rattle.std.specs.Prelude.{Bool, true, ◌&&◌, List, ℕ, zero, suc, ◌+◌, leb, eqb, get_or}
+use Rattle.std.specs.Prelude.{Bool, true, ◌&&◌, List, ℕ, zero, suc, ◌+◌, leb, eqb, get_or, Result, Ok, Err}
 use Rattle.std.specs.Float.{binary32, binary64}
 use Rattle.std.specs.Float.Ieee.{of_bits}
 use Rattle.std.specs.Float.Ieee.Scale.{finite}
 use Rattle.lists.specs.Pick.{pick}
+use Rattle.refusals.specs.declared.Fault.{Fault}
+use Rattle.refusals.specs.declared.Fault.TheVariants.{UnknownCode, NotFinite}
 use Rattle.little_endian.specs.Words.{u32_at, u64_at}
 
 -- the n f64 from an offset on are finite; an f32 is
@@ -28,15 +30,19 @@ finite_glyph s at = finite_f32 s (at + 5) && (finite_f32 s (at + 9) && finite_fr
 unfoldable pub codes_fit : ℕ → ℕ → ℕ → Bool
 codes_fit join start end = leb join 2 && (leb start 2 && leb end 2)
 
--- the number that the operands of a command with the byte b get, 0 where they pass
-unfoldable pub operands_at : List ℕ → ℕ → ℕ → ℕ
+-- what floats come to, by whether all of them are finite
+abbrev pub floats_pass : Bool → Result (Unit {0}) Fault
+floats_pass t = pick t (Ok tt) (Err NotFinite)
+
+-- whether the operands of a command with the byte b pass, or what is wrong with them
+unfoldable pub operands_at : List ℕ → ℕ → ℕ → Result (Unit {0}) Fault
 operands_at s at b =
     pick (eqb b 1)
-    (pick (finite_from s (at + 1) 4) 0 4)
+    (floats_pass (finite_from s (at + 1) 4))
     (pick (eqb b 3)
-    (pick (finite_from s (at + 9) 10) 0 4)
+    (floats_pass (finite_from s (at + 9) 10))
     (pick (eqb b 4)
-    (pick (codes_fit (get_or s (at + 105) 0) (get_or s (at + 114) 0) (get_or s (at + 115) 0)) (pick (finite_stroke s at) 0 4) 3)
+    (pick (codes_fit (get_or s (at + 105) 0) (get_or s (at + 114) 0) (get_or s (at + 115) 0)) (floats_pass (finite_stroke s at)) (Err UnknownCode))
     (pick (eqb b 5)
-    (pick (finite_run s at) 0 4)
-    (pick (eqb b 6) (pick (finite_glyph s at) 0 4) (pick (eqb b 7) (pick (finite_from s (at + 25) 10) 0 4) 0)))))
+    (floats_pass (finite_run s at))
+    (pick (eqb b 6) (floats_pass (finite_glyph s at)) (pick (eqb b 7) (floats_pass (finite_from s (at + 25) 10)) (Ok tt))))))

@@ -3,21 +3,17 @@
 #![tactic(auto)]
 
 ghost use Rattle.std.specs.Prelude.{◌≡◌, ◌+◌, ◌*◌, ◌≤◌, ◌<◌, ◌^◌, length};
-ghost use Rattle.lists.specs.Pick.{pick};
 ghost use Rattle.operand_checks.specs.Operands as Operands;
+
+use refusals::Fault;
 
 // Whether the n f64 from an offset on are finite, where bytes may be missing.
 fn finite_cut(s: &[u8], at: usize, n: usize) -> bool
     requires { at + 8 * n < 2 ^ 64 }
     ensures { result ≡ Operands.finite_from s.now at n }
 {
-    let mut p = at;
-    let mut left = n;
-    while 0 < left {
-        if little_endian::finite64(little_endian::u64_at(s, p)) {
-            p += 8;
-            left -= 1;
-        } else {
+    for k in 0..n {
+        if !little_endian::finite64(little_endian::u64_at(s, at + 8 * k)) {
             return false;
         }
     }
@@ -29,13 +25,8 @@ fn finite_inside(s: &[u8], at: usize, n: usize) -> bool
     requires { at + 8 * n ≤ length s.now }
     ensures { result ≡ Operands.finite_from s.now at n }
 {
-    let mut p = at;
-    let mut left = n;
-    while 0 < left {
-        if little_endian::finite64_inside(s, p) {
-            p += 8;
-            left -= 1;
-        } else {
+    for k in 0..n {
+        if !little_endian::finite64_inside(s, at + 8 * k) {
             return false;
         }
     }
@@ -59,103 +50,80 @@ fn finite_f32(s: &[u8], at: usize) -> bool
     little_endian::finite32(little_endian::u32_at(s, at) as u32)
 }
 
+#[tactic(auto, unfolding(crate::specs::Operands::finite_stroke))]
 fn finite_stroke(s: &[u8], at: usize) -> bool
     requires { at + 124 < 2 ^ 64 }
     ensures { result ≡ Operands.finite_stroke s.now at }
 {
-    if finite_from(s, at + 9, 10) {
-        if finite_from(s, at + 97, 1) {
-            finite_from(s, at + 106, 1)
-        } else {
-            false
-        }
-    } else {
-        false
-    }
+    finite_from(s, at + 9, 10) && finite_from(s, at + 97, 1) && finite_from(s, at + 106, 1)
 }
 
+#[tactic(auto, unfolding(crate::specs::Operands::finite_run))]
 fn finite_run(s: &[u8], at: usize) -> bool
     requires { at + 103 < 2 ^ 64 }
     ensures { result ≡ Operands.finite_run s.now at }
 {
-    if finite_f32(s, at + 9) {
-        if finite_from(s, at + 13, 6) {
-            finite_from(s, at + 69, 4)
-        } else {
-            false
-        }
-    } else {
-        false
-    }
+    finite_f32(s, at + 9) && finite_from(s, at + 13, 6) && finite_from(s, at + 69, 4)
 }
 
+#[tactic(auto, unfolding(crate::specs::Operands::finite_glyph))]
 fn finite_glyph(s: &[u8], at: usize) -> bool
     requires { at + 45 < 2 ^ 64 }
     ensures { result ≡ Operands.finite_glyph s.now at }
 {
-    if finite_f32(s, at + 5) {
-        if finite_f32(s, at + 9) {
-            finite_from(s, at + 13, 4)
-        } else {
-            false
-        }
-    } else {
-        false
-    }
+    finite_f32(s, at + 5) && finite_f32(s, at + 9) && finite_from(s, at + 13, 4)
 }
 
+#[tactic(auto, unfolding(crate::specs::Operands::codes_fit))]
 fn codes_fit(join: u8, start: u8, end: u8) -> bool
     ensures { result ≡ Operands.codes_fit join start end }
 {
-    if join <= 2 {
-        if start <= 2 { end <= 2 } else { false }
-    } else {
-        false
-    }
+    join <= 2 && start <= 2 && end <= 2
 }
 
-fn floats_number(pass: bool) -> u32
-    ensures { result ≡ pick pass 0 4 }
+fn floats_pass(pass: bool) -> Result<(), Fault>
+    ensures { result ≡ Operands.floats_pass pass }
 {
-    if pass { 0 } else { 4 }
+    if pass { Ok(()) } else { Err(Fault::NotFinite) }
 }
 
-fn operands_inside(s: &[u8], at: usize, b: u8) -> u32
+fn operands_inside(s: &[u8], at: usize, b: u8) -> Result<(), Fault>
     requires { at < length s.now }
     ensures { result ≡ Operands.operands_at s.now at b }
 {
     match b {
-        1 => floats_number(finite_from(s, at + 1, 4)),
-        3 => floats_number(finite_from(s, at + 9, 10)),
+        1 => floats_pass(finite_from(s, at + 1, 4)),
+        3 => floats_pass(finite_from(s, at + 9, 10)),
         4 => {
             let join = little_endian::byte_at(s, at + 105);
             let start = little_endian::byte_at(s, at + 114);
             let end = little_endian::byte_at(s, at + 115);
             if codes_fit(join, start, end) {
-                floats_number(finite_stroke(s, at))
+                floats_pass(finite_stroke(s, at))
             } else {
-                3
+                Err(Fault::UnknownCode)
             }
         }
-        5 => floats_number(finite_run(s, at)),
-        6 => floats_number(finite_glyph(s, at)),
-        7 => floats_number(finite_from(s, at + 25, 10)),
-        _ => 0,
+        5 => floats_pass(finite_run(s, at)),
+        6 => floats_pass(finite_glyph(s, at)),
+        7 => floats_pass(finite_from(s, at + 25, 10)),
+        _ => Ok(()),
     }
 }
 
-// The number that the operands of the command at an offset get, and 0 where they pass.
-pub fn operands(s: &[u8], at: usize, b: u8) -> u32
+// Whether the operands of the command at an offset pass, or what is wrong with them.
+pub fn operands(s: &[u8], at: usize, b: u8) -> Result<(), Fault>
     ensures { result ≡ Operands.operands_at s.now at b }
 {
     if s.len() <= at {
-        return 0;
+        return Ok(());
     }
     operands_inside(s, at, b)
 }
 
 // Whether the floats of the GLYPH at an offset are finite. One that stands whole is tested here, so that this is compiled into the loop
 // over a run's glyphs.
+#[tactic(auto, unfolding(crate::specs::Operands::finite_glyph), using(crate::proofs::Past::glyph_past))]
 pub fn glyph_passes(s: &[u8], at: usize) -> bool
     ensures { result ≡ Operands.finite_glyph s.now at }
 {
@@ -165,13 +133,7 @@ pub fn glyph_passes(s: &[u8], at: usize) -> bool
     if s.len() - at < 45 {
         return finite_glyph(s, at);
     }
-    if little_endian::finite32_inside(s, at + 5) {
-        if little_endian::finite32_inside(s, at + 9) {
-            finite_inside(s, at + 13, 4)
-        } else {
-            false
-        }
-    } else {
-        false
-    }
+    little_endian::finite32_inside(s, at + 5)
+        && little_endian::finite32_inside(s, at + 9)
+        && finite_inside(s, at + 13, 4)
 }

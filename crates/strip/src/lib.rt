@@ -11,6 +11,7 @@ ghost use Rattle.strip.specs.Effects.{settled, draw_effect, last_effect, Stands,
 
 use affine::Affine;
 use geometry::Rect;
+use refusals::{Fault, Refusal};
 
 mod reader;
 
@@ -30,8 +31,8 @@ pub struct Cursor {
     pub united: Rect,
 }
 
-// What the command at the cursor does. `Draw` says that a drawing command is whole, with its offset and its transformed
-// box; `Next` that only the cursor moves.
+// What the command at the cursor does, unless it is turned away. `Draw` says that a drawing command is whole, with its offset and
+// its transformed box; `Next` that only the cursor moves.
 #[derive(Clone, Copy)]
 pub enum Step {
     Next(Cursor),
@@ -39,7 +40,6 @@ pub enum Step {
     Pop(Cursor),
     Draw(Cursor, usize, Rect),
     End(Cursor),
-    Refused(u32, usize),
 }
 
 // What a command does, before the box of what it draws is transformed: a drawing command that is whole, with the cursor behind it,
@@ -49,13 +49,6 @@ pub enum Step {
 enum Effect {
     Drawn(Cursor, usize, usize, Affine, Rect),
     Done(Step),
-}
-
-// What a strip is: read to its END, or turned away.
-#[derive(Clone, Copy)]
-pub enum Answer {
-    Read(Cursor),
-    Refused(u32, usize),
 }
 
 impl Cursor {
@@ -79,7 +72,7 @@ impl Cursor {
         }
     }
 
-    fn clip(mut self, s: &[u8]) -> Step
+    fn clip(mut self, s: &[u8]) -> Result<Step, Refusal>
         requires { (self.at + 33 ≤ length s.now) × FourFinite s.now (self.at + 1) }
         ensures { result ≡ Steps.clip_step s.now self }
     {
@@ -97,7 +90,7 @@ impl Cursor {
         Step::Clip(self, bounds)
     }
 
-    fn pop(mut self) -> Step
+    fn pop(mut self) -> Result<Step, Refusal>
         requires { self.at + 1 < 2 ^ 64 }
         ensures { result ≡ Steps.pop_step self }
     {
@@ -110,7 +103,7 @@ impl Cursor {
         Step::Pop(self)
     }
 
-    fn draw(mut self, transform: Affine, bounds: Rect, len: usize) -> Effect
+    fn draw(mut self, transform: Affine, bounds: Rect, len: usize) -> Result<Effect, Refusal>
         requires { self.at + len < 2 ^ 64 }
         ensures { result ≡ draw_effect self transform bounds len }
     {
@@ -126,7 +119,7 @@ impl Cursor {
     }
 
     // A RUN that announces glyphs.
-    fn run(mut self, due: u64) -> Step
+    fn run(mut self, due: u64) -> Result<Step, Refusal>
         requires { self.at + 103 < 2 ^ 64 }
         ensures { result ≡ Steps.announce self due }
     {
@@ -142,7 +135,7 @@ impl Cursor {
     }
 
     // Any drawing command. One that announces no glyph is drawn, a RUN too: in one place, so that it is compiled into its caller.
-    fn draw_or_run(self, s: &[u8], b: u8) -> Effect
+    fn draw_or_run(self, s: &[u8], b: u8) -> Result<Effect, Refusal>
         requires { DrawsAt s.now self.at b }
         ensures { settled result ≡ Steps.effect_of s.now self b }
     {
@@ -202,7 +195,7 @@ impl Cursor {
         }
     }
 
-    fn glyph(self, s: &[u8]) -> Effect
+    fn glyph(self, s: &[u8]) -> Result<Effect, Refusal>
         requires { (self.at + 45 ≤ length s.now) × (0 < self.due) × FourFinite s.now (self.at + 13) }
         ensures { settled result ≡ Steps.glyph_step s.now self }
     {
@@ -286,7 +279,7 @@ fn due_fits(b: u8, due: u64) -> bool
 }
 
 // The byte is handed on as it is written, not as it was read: the compiler then makes a row of code for each kind, in which all offsets stand.
-fn effect_of(s: &[u8], st: Cursor, b: u8) -> Effect
+fn effect_of(s: &[u8], st: Cursor, b: u8) -> Result<Effect, Refusal>
     requires { Stands s.now st.at b × (Steps.due_fits b st.due ≡ true) }
     ensures { settled result ≡ Steps.effect_of s.now st b }
 {

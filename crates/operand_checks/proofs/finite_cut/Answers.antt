@@ -1,21 +1,13 @@
--- `operands::finite_cut` meets its contract: what is left to test decides as the whole does. Assumes nothing.
+-- What is left to test decides as the whole does. Assumes nothing.
 use mathlib.Core.Path.{sym, ◌∙◌}
-use borrow.Author.Rules.{rules}
-use Rattle.operand_checks.proofs.Finite.{finite_none, finite_more, finite_stop, of_word}
+use Rattle.operand_checks.proofs.Finite.{left_next, left_stops, left_none, of_word}
 use Rattle.operand_checks.proofs.finite_cut.Goals as goal
 
-pub loop-left-preserved : goal.loop-left-preserved
-loop-left-preserved c = (
-  search rules,
-  sym (finite_more _ _ _ c.loop-left-test.true (of_word c.finite64.ensures c.u64_at.ensures c.if-finite64.true))
-      ∙ c.loop-left.invariant.1,
-)
+pub loop-k-preserved : goal.loop-k-preserved
+loop-k-preserved c = left_next _ _ _ _ _ c.loop-k.invariant c.loop-k-test.true (of_word c.finite64.ensures c.u64_at.ensures c.if-not-finite64.false)
 
-pub returns-else-finite64 : goal.returns-else-finite64
-returns-else-finite64 c =
-    sym
-    (sym c.loop-left.invariant.1
-    ∙ finite_stop _ _ _ c.loop-left-test.true (of_word c.finite64.ensures c.u64_at.ensures c.if-finite64.false))
+pub returns-then-not-finite64 : goal.returns-then-not-finite64
+returns-then-not-finite64 c = left_stops _ _ _ _ _ c.loop-k.invariant c.loop-k-test.true (of_word c.finite64.ensures c.u64_at.ensures c.if-not-finite64.true)
 
 pub returns : goal.returns
-returns c = sym (sym c.loop-left.invariant.1 ∙ finite_none _ _ _ c.loop-left-test.false)
+returns c = left_none _ _ _ _ _ c.loop-k.invariant c.loop-k-test.false

@@ -1,10 +1,6 @@
-use mathlib.Core.Path.{◌≡◌}
-use Prim.Native.Nat.{◌<◌, ◌+◌, ◌*◌, ◌^◌}
+use Rattle.std.proofs.Common.{◌≡◌, ◌+◌, ◌*◌, ◌-◌}
 use Rattle.operand_checks.specs.Operands.{finite_from}
 use Rattle.operand_checks.proofs.finite_cut.Given as goal
 
-abbrev pub invariant-loop-left : goal.invariant-loop-left
-invariant-loop-left l = (l.p + 8 * l.left < 2 ^ 64) × (finite_from l.s l.p l.left ≡ finite_from l.s l.at l.n)
-
-abbrev pub decreases-loop-left : goal.decreases-loop-left
-decreases-loop-left l = l.left
+abbrev pub invariant-loop-k : goal.invariant-loop-k
+invariant-loop-k l = finite_from l.s (l.at + 8 * l.k) (l.n - l.k) ≡ finite_from l.s l.at l.n

@@ -1,0 +1,70 @@
+// Why a call is turned away, and where.
+#![tactic(auto)]
+
+ghost use Rattle.std.specs.Prelude.{◌≡◌};
+ghost use Rattle.refusals.specs.Table as Table;
+
+// The cases of document 01's table, each with a number of its own.
+#[derive(Clone, Copy, Debug, PartialEq, Eq)]
+pub enum Fault {
+    // A width, height or band height is 0 or too large.
+    Size,
+    // The bytes end within the header, before a command or within one.
+    CutOff,
+    // A byte is no command's, or a code no join's or cap's.
+    UnknownCode,
+    // A float is infinite or a NaN.
+    NotFinite,
+    // A clip is closed where none is open.
+    NoOpenClip,
+    // One clip, drawing command or glyph more than a frame may have.
+    TooMany,
+    // A glyph where none is due, or another command while glyphs are due.
+    GlyphOrder,
+    // A byte follows the end.
+    TrailingByte,
+    // An inflated edge or a transformed corner of a box is not finite.
+    UnboundedBox,
+    // The space lent is too small.
+    NoRoom,
+    // The index words do not have the region's row.
+    NoRow,
+}
+
+// A fault, and the byte of the input at which it was found.
+#[derive(Clone, Copy, Debug, PartialEq, Eq)]
+pub struct Refusal {
+    pub fault: Fault,
+    pub position: usize,
+}
+
+impl Fault {
+    // The number that callers in other languages get.
+    pub fn number(self) -> u32
+        ensures { result ≡ Table.number self }
+    {
+        match self {
+            Fault::Size => 1,
+            Fault::CutOff => 2,
+            Fault::UnknownCode => 3,
+            Fault::NotFinite => 4,
+            Fault::NoOpenClip => 5,
+            Fault::TooMany => 6,
+            Fault::GlyphOrder => 7,
+            Fault::TrailingByte => 8,
+            Fault::UnboundedBox => 9,
+            Fault::NoRoom => 10,
+            Fault::NoRow => 11,
+        }
+    }
+
+    // The fault at a byte.
+    pub fn at(self, position: usize) -> Refusal
+        ensures { result ≡ Table.refusal self position }
+    {
+        Refusal {
+            fault: self,
+            position,
+        }
+    }
+}
