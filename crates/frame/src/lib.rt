@@ -1,99 +1,85 @@
-// A whole input: its header, and the strips behind it, with the number and position of the first refusal. Any bytes will
-// do, an empty input too.
+// A whole input: its header, and the strips behind it, or the first refusal. Any bytes will do, an empty input too.
 #![tactic(auto)]
 
 ghost use Rattle.std.specs.Prelude.{◌≡◌, ◌≤◌, length};
 ghost use Rattle.frame.specs.Frame as Frame;
 ghost use Rattle.strip.specs.Reading.{read_strip};
 
-use strip::{Answer, Cursor};
+use refusals::{Fault, Refusal};
+use strip::Cursor;
 
-// Width, height and band height, or the number that the header gets (its position is 0).
-#[derive(Clone, Copy)]
-pub enum Header {
-    Sizes(u32, u32, u32),
-    BadHeader(u32),
+// The sizes of the screen and of its bands, all of them from 1 to 32,768.
+#[derive(Clone, Copy, Debug, PartialEq, Eq)]
+pub struct Header {
+    pub width: u32,
+    pub height: u32,
+    pub band_height: u32,
 }
 
-// Where the one strip of a first frame ended, or number and position.
+// Where the old strip ended, and where the new one.
 #[derive(Clone, Copy)]
-pub enum First {
-    One(Cursor),
-    NotOne(u32, usize),
+pub struct Strips {
+    pub old: Cursor,
+    pub new: Cursor,
 }
 
-// Where the old strip ended and where the new one, or number and position.
-#[derive(Clone, Copy)]
-pub enum Pair {
-    Both(Cursor, Cursor),
-    NotBoth(u32, usize),
-}
-
+#[tactic(auto, unfolding(crate::specs::Frame::size_fits))]
 fn size_fits(n: u64) -> bool
     ensures { result ≡ Frame.size_fits n }
 {
-    if n == 0 { false } else { n <= 32768 }
+    n != 0 && n <= 32768
 }
 
-pub fn read_header(s: &[u8]) -> Header
+pub fn read_header(s: &[u8]) -> Result<Header, Refusal>
     ensures { result ≡ Frame.header_of s.now }
 {
     if s.len() < 12 {
-        return Header::BadHeader(2);
+        return Err(Fault::CutOff.at(0));
     }
     let width = little_endian::u32_at(s, 0);
     let height = little_endian::u32_at(s, 4);
     let band = little_endian::u32_at(s, 8);
-    if size_fits(width) {
-        if size_fits(height) {
-            if size_fits(band) {
-                return Header::Sizes(width as u32, height as u32, band as u32);
-            }
-            return Header::BadHeader(1);
-        }
-        return Header::BadHeader(1);
+    if !size_fits(width) || !size_fits(height) || !size_fits(band) {
+        return Err(Fault::Size.at(0));
     }
-    Header::BadHeader(1)
+    Ok(Header {
+        width: width as u32,
+        height: height as u32,
+        band_height: band as u32,
+    })
+}
+
+// The end of an input's last strip, unless a byte follows.
+pub fn at_end(s: &[u8], last: Cursor) -> Result<Cursor, Refusal>
+    ensures { result ≡ Frame.ended s.now last }
+{
+    if last.at < s.len() {
+        return Err(Fault::TrailingByte.at(last.at));
+    }
+    Ok(last)
 }
 
 // The strip behind the header, and nothing behind it.
-pub fn first_frame(s: &[u8]) -> First
+pub fn first_frame(s: &[u8]) -> Result<Cursor, Refusal>
     ensures { result ≡ Frame.first_of s.now }
 {
-    match strip::read_strip(s, 12) {
-        Answer::Read(new) => {
-            let end = new.at;
-            if end < s.len() {
-                return First::NotOne(8, end);
-            }
-            First::One(new)
-        }
-        Answer::Refused(number, position) => First::NotOne(number, position),
-    }
+    let new = strip::read_strip(s, 12)?;
+    at_end(s, new)
 }
 
 // The new strip, read from where the old one ended, and nothing behind it.
-fn new_strip(s: &[u8], old: Cursor) -> Pair
+fn new_strip(s: &[u8], old: Cursor) -> Result<Strips, Refusal>
     ensures { result ≡ Frame.then_new s.now old (read_strip s.now old.at) }
 {
-    match strip::read_behind(s, old) {
-        Answer::Read(new) => {
-            let end = new.at;
-            if end < s.len() {
-                return Pair::NotBoth(8, end);
-            }
-            Pair::Both(old, new)
-        }
-        Answer::Refused(number, position) => Pair::NotBoth(number, position),
-    }
+    let last = strip::read_behind(s, old)?;
+    let new = at_end(s, last)?;
+    Ok(Strips { old, new })
 }
 
 // The two strips behind the header, and nothing behind them.
-pub fn both_strips(s: &[u8]) -> Pair
+pub fn both_strips(s: &[u8]) -> Result<Strips, Refusal>
     ensures { result ≡ Frame.both_of s.now }
 {
-    match strip::read_strip(s, 12) {
-        Answer::Read(old) => new_strip(s, old),
-        Answer::Refused(number, position) => Pair::NotBoth(number, position),
-    }
+    let old = strip::read_strip(s, 12)?;
+    new_strip(s, old)
 }

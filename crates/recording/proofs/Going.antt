@@ -8,6 +8,9 @@ use lib.ListN.{length, take, length-append, length-take}
 use lib.Seq.{take_at}
 use borrow.Author.Tests.{ne_eqb}
 use lib.Ieee.{Float}
+use Rattle.std.specs.Prelude.{Result, Ok, Err}
+use Rattle.refusals.specs.declared.Refusal.{Refusal}
+use Rattle.refusals.specs.Table.{refused}
 use Rattle.lists.proofs.Picks.{by_le}
 use Rattle.geometry.specs.declared.Rect.{Rect}
 use Rattle.affine.proofs.Corners.{try_is}
@@ -21,9 +24,7 @@ use Rattle.display_list.proofs.Holding.{Held, held_push, held_pop, push_keeps, o
 use Rattle.display_list.proofs.Items.{push_offset, push_number, push_box, offset_kept, number_kept, box_kept, length_items, length_item_boxes}
 use Rattle.strip.specs.declared.Cursor.{Cursor}
 use Rattle.strip.specs.declared.Step.{Step}
-use Rattle.strip.specs.declared.Step.TheVariants.{Next, Clip, Pop, Draw, End, Refused}
-use Rattle.strip.specs.declared.Answer.{Answer}
-use Rattle.strip.specs.declared.Answer.TheVariants.{Read, Refused as TurnedAway}
+use Rattle.strip.specs.declared.Step.TheVariants.{Next, Clip, Pop, Draw, End}
 use Rattle.strip.specs.Steps.{start_at, step_at}
 use Rattle.strip.specs.Effects.{Moves, Passes}
 use Rattle.strip.specs.Reading.{on_step, read_from, read_strip, command_of, drop_last, Listing, noted, on_next, list_from, commands_of}
@@ -49,13 +50,13 @@ pub record Counts (st t : Cursor) (opened closed : ℕ) : Type 0 where
   pub clips : t.clips ≡ st.clips + opened
   pub depth : t.depth + closed ≡ st.depth + opened
 
-abbrev Counted : Cursor → Step → Type 0
-Counted st (Next t) = Counts st t 0 0
-Counted st (Clip t box) = Counts st t 1 0
-Counted st (Pop t) = Counts st t 0 1
-Counted st (Draw t at box) = Counts st t 0 0
-Counted st (End t) = Counts st t 0 0 × (t.due ≡ 0)
-Counted st (Refused n p) = Unit {0}
+abbrev Counted : Cursor → Result Step Refusal → Type 0
+Counted st (Ok (Next t)) = Counts st t 0 0
+Counted st (Ok (Clip t box)) = Counts st t 1 0
+Counted st (Ok (Pop t)) = Counts st t 0 1
+Counted st (Ok (Draw t at box)) = Counts st t 0 0
+Counted st (Ok (End t)) = Counts st t 0 0 × (t.due ≡ 0)
+Counted st (Err why) = Unit {0}
 
 step_counted : (s : List ℕ) (st : Cursor) → Counted st (step_at s st)
 step_counted s st = by_cases s st (Counted st) record {
@@ -128,7 +129,7 @@ module _ (s : List ℕ) (m : ℕ) (z y : Space) (d : ListState) (l : Listing) (h
       }
 
   -- a command more
-  module _ (at : ℕ) (box : Rect) (p : 2 * d.commands + 2 ≤ length y.items) (q : 4 * d.commands + 4 ≤ length y.item_boxes) (w : Whole s at) (drawn : Boxed s (Draw (start_at at) at box)) where
+  module _ (at : ℕ) (box : Rect) (p : 2 * d.commands + 2 ≤ length y.items) (q : 4 * d.commands + 4 ≤ length y.item_boxes) (w : Whole s at) (drawn : Boxed s (Ok (Draw (start_at at) at box))) where
     abbrev cut : Rect
     cut = open_rect d y.boxes box
 
@@ -235,9 +236,9 @@ popped : (d : ListState) (ns : List ℕ) → (d.depth ≡ 0 → ⊥) → Popped 
 unfolding popped_clip
 popped d ns h = rw (ne_eqb d.depth 0 h) record { clips = refl; depth = refl; commands = refl }
 
-module _ (s : List ℕ) (at c m : ℕ) (z : Space) (st : Cursor) (d : ListState) (y : Space) (g : Going s at c m z st d y) (r : Step) (p : r ≡ step_at s st) where
+module _ (s : List ℕ) (at c m : ℕ) (z : Space) (st : Cursor) (d : ListState) (y : Space) (g : Going s at c m z st d y) (r : Result Step Refusal) (p : r ≡ step_at s st) where
   -- what every step gives
-  record Facts (x : Step) : Type 0 where
+  record Facts (x : Result Step Refusal) : Type 0 where
     moved : Moved (length s) st x
     in_run : Kept (InRun s) (λ t. Unit {0}) x
     within : Kept Within Within x
@@ -246,7 +247,7 @@ module _ (s : List ℕ) (at c m : ℕ) (z : Space) (st : Cursor) (d : ListState)
     draws : Draws s x
     boxed : Boxed s x
 
-  facts : (x : Step) → r ≡ x → Facts x
+  facts : (x : Result Step Refusal) → r ≡ x → Facts x
   facts x q = subst Facts (sym p ∙ q) record {
     moved = step_moves s st;
     in_run = step_in_run s st g.in_run;
@@ -258,8 +259,8 @@ module _ (s : List ℕ) (at c m : ℕ) (z : Space) (st : Cursor) (d : ListState)
   }
 
   -- what a step hands on
-  record Onward (x : Step) (t : Cursor) (e : ListState) (w : Space) : Type 0 where
-    reads_on : (k : Cursor → Answer) → on_step x k ≡ k t
+  record Onward (x : Result Step Refusal) (t : Cursor) (e : ListState) (w : Space) : Type 0 where
+    reads_on : (k : Cursor → Result Cursor Refusal) → on_step x k ≡ k t
     lists_on : (k : Cursor → Listing) → on_next x g.listing k ≡ k t
     ahead : (st.at < t.at) × (t.at ≤ length s)
     in_run : InRun s t
@@ -279,7 +280,7 @@ module _ (s : List ℕ) (at c m : ℕ) (z : Space) (st : Cursor) (d : ListState)
   abbrev pub Nearer : Cursor → ListState → Space → Type 0
   Nearer t e w = (length s - t.at < length s - st.at) × Going s at c m z t e w
 
-  onward : (x : Step) (t : Cursor) (e : ListState) (w : Space) → r ≡ x → Onward x t e w → Nearer t e w
+  onward : (x : Result Step Refusal) (t : Cursor) (e : ListState) (w : Space) → r ≡ x → Onward x t e w → Nearer t e w
   unfolding read_from list_from
   onward x t e w q o = go g.fuel g.enough g.reads g.lists
     where
@@ -292,7 +293,7 @@ module _ (s : List ℕ) (at c m : ℕ) (z : Space) (st : Cursor) (d : ListState)
           enough = omega (arith, o.ahead.0, o.ahead.1);
           reads = sym (ap (λ v. on_step v (read_from k s)) (sym p ∙ q) ∙ o.reads_on (read_from k s)) ∙ b;
           listing = noted s g.listing x;
-          lists = sym (ap (λ (v : Step). (on_next v g.listing (λ (u : Cursor). list_from k s u (noted s g.listing v))).commands) (sym p ∙ q) ∙ ap (λ (v : Listing). v.commands) (o.lists_on (λ (u : Cursor). list_from k s u (noted s g.listing x)))) ∙ f;
+          lists = sym (ap (λ (v : Result Step Refusal). (on_next v g.listing (λ (u : Cursor). list_from k s u (noted s g.listing v))).commands) (sym p ∙ q) ∙ ap (λ (v : Listing). v.commands) (o.lists_on (λ (u : Cursor). list_from k s u (noted s g.listing x)))) ∙ f;
           in_run = o.in_run;
           within = o.within;
           tally = o.tally;
@@ -304,8 +305,8 @@ module _ (s : List ℕ) (at c m : ℕ) (z : Space) (st : Cursor) (d : ListState)
         },
       )
 
-  pub on_next_lem : (t : Cursor) → r ≡ Next t → Nearer t d y
-  on_next_lem t q = let f = facts (Next t) q in onward (Next t) t d y q record {
+  pub on_next_lem : (t : Cursor) → r ≡ Ok (Next t) → Nearer t d y
+  on_next_lem t q = let f = facts (Ok (Next t)) q in onward (Ok (Next t)) t d y q record {
     reads_on = λ k. refl;
     lists_on = λ k. refl;
     ahead = f.moved;
@@ -319,11 +320,11 @@ module _ (s : List ℕ) (at c m : ℕ) (z : Space) (st : Cursor) (d : ListState)
     holds = g.holds;
   }
 
-  clip_on : (t : Cursor) (box : Rect) → r ≡ Clip t box → Nearer t (pushed_clip d) (space (clip_boxes d y.boxes y.below box) (clip_numbers d y.boxes y.below) y.items y.item_boxes)
+  clip_on : (t : Cursor) (box : Rect) → r ≡ Ok (Clip t box) → Nearer t (pushed_clip d) (space (clip_boxes d y.boxes y.below box) (clip_numbers d y.boxes y.below) y.items y.item_boxes)
   clip_on t box q =
-      let f = facts (Clip t box) q in
+      let f = facts (Ok (Clip t box)) q in
       let l = g.lengths in
-      onward (Clip t box) t (pushed_clip d) (space (clip_boxes d y.boxes y.below box) (clip_numbers d y.boxes y.below) y.items y.item_boxes) q record {
+      onward (Ok (Clip t box)) t (pushed_clip d) (space (clip_boxes d y.boxes y.below box) (clip_numbers d y.boxes y.below) y.items y.item_boxes) q record {
         reads_on = λ k. refl;
         lists_on = λ k. refl;
         ahead = f.moved;
@@ -337,11 +338,11 @@ module _ (s : List ℕ) (at c m : ℕ) (z : Space) (st : Cursor) (d : ListState)
         holds = λ h a. listed_clip s m z y d g.listing (g.holds h record { boxes = omega (arith, a.boxes); below = omega (arith, a.below); items = a.items; item_boxes = a.item_boxes }) g.commands_are box (omega (arith, l.boxes, a.boxes)) (omega (arith, l.below, a.below));
       }
 
-  pop_on : (t : Cursor) → r ≡ Pop t → Nearer t (popped_clip d y.below) y
+  pop_on : (t : Cursor) → r ≡ Ok (Pop t) → Nearer t (popped_clip d y.below) y
   pop_on t q =
-      let f = facts (Pop t) q in
+      let f = facts (Ok (Pop t)) q in
       let e = popped d y.below (λ n. omega (arith, n, g.depth_is, f.counted.depth)) in
-      onward (Pop t) t (popped_clip d y.below) y q record {
+      onward (Ok (Pop t)) t (popped_clip d y.below) y q record {
         reads_on = λ k. refl;
         lists_on = λ k. refl;
         ahead = f.moved;
@@ -357,11 +358,11 @@ module _ (s : List ℕ) (at c m : ℕ) (z : Space) (st : Cursor) (d : ListState)
             listed_pop s m z y d g.listing (g.holds h record { boxes = omega (arith, a.boxes, e.clips); below = omega (arith, a.below, e.clips); items = omega (arith, a.items, e.commands); item_boxes = omega (arith, a.item_boxes, e.commands) }) g.commands_are last.0 last.1 last.2 e.clips e.commands;
       }
 
-  draw_on : (t : Cursor) (from : ℕ) (box : Rect) → r ≡ Draw t from box → Nearer t (pushed d) (space y.boxes y.below (item_words d y.items y.item_boxes from) (item_boxes d y.items y.item_boxes (open_rect d y.boxes box)))
+  draw_on : (t : Cursor) (from : ℕ) (box : Rect) → r ≡ Ok (Draw t from box) → Nearer t (pushed d) (space y.boxes y.below (item_words d y.items y.item_boxes from) (item_boxes d y.items y.item_boxes (open_rect d y.boxes box)))
   draw_on t from box q =
-      let f = facts (Draw t from box) q in
+      let f = facts (Ok (Draw t from box)) q in
       let l = g.lengths in
-      onward (Draw t from box) t (pushed d) (space y.boxes y.below (item_words d y.items y.item_boxes from) (item_boxes d y.items y.item_boxes (open_rect d y.boxes box))) q record {
+      onward (Ok (Draw t from box)) t (pushed d) (space y.boxes y.below (item_words d y.items y.item_boxes from) (item_boxes d y.items y.item_boxes (open_rect d y.boxes box))) q record {
         reads_on = λ k. refl;
         lists_on = λ k. refl;
         ahead = f.moved;
@@ -376,28 +377,28 @@ module _ (s : List ℕ) (at c m : ℕ) (z : Space) (st : Cursor) (d : ListState)
       }
 
   -- the same, for what the steps of the list hand back
-  pub on_clip : (t : Cursor) (box : Rect) → r ≡ Clip t box → (e : ListState) (bs : List Float) (ns : List ℕ) → e ≡ pushed_clip d → bs ≡ clip_boxes d y.boxes y.below box → ns ≡ clip_numbers d y.boxes y.below → Nearer t e (space bs ns y.items y.item_boxes)
+  pub on_clip : (t : Cursor) (box : Rect) → r ≡ Ok (Clip t box) → (e : ListState) (bs : List Float) (ns : List ℕ) → e ≡ pushed_clip d → bs ≡ clip_boxes d y.boxes y.below box → ns ≡ clip_numbers d y.boxes y.below → Nearer t e (space bs ns y.items y.item_boxes)
   on_clip t box q e bs ns u v w = rw (u, v, w) (clip_on t box q)
 
-  pub on_pop : (t : Cursor) → r ≡ Pop t → (e : ListState) → e ≡ popped_clip d y.below → Nearer t e y
+  pub on_pop : (t : Cursor) → r ≡ Ok (Pop t) → (e : ListState) → e ≡ popped_clip d y.below → Nearer t e y
   on_pop t q e u = rw u (pop_on t q)
 
-  pub on_draw : (t : Cursor) (from : ℕ) (box : Rect) → r ≡ Draw t from box → (e : ListState) (b : Rect) (is : List ℕ) (ibs : List Float) → b ≡ open_rect d y.boxes box → e ≡ pushed d → is ≡ item_words d y.items y.item_boxes from → ibs ≡ item_boxes d y.items y.item_boxes b → Nearer t e (space y.boxes y.below is ibs)
+  pub on_draw : (t : Cursor) (from : ℕ) (box : Rect) → r ≡ Ok (Draw t from box) → (e : ListState) (b : Rect) (is : List ℕ) (ibs : List Float) → b ≡ open_rect d y.boxes box → e ≡ pushed d → is ≡ item_words d y.items y.item_boxes from → ibs ≡ item_boxes d y.items y.item_boxes b → Nearer t e (space y.boxes y.below is ibs)
   on_draw t from box q e b is ibs o u v w = rw (u, v, w, o) (draw_on t from box q)
 
   -- ---- the end
-  pub on_end : (t : Cursor) → r ≡ End t → (Read t ≡ read_strip s at) × (SameLengths z y × Records s at c m z y (Read t))
+  pub on_end : (t : Cursor) → r ≡ Ok (End t) → ((Ok t) ≡ read_strip s at) × (SameLengths z y × Records s at c m z y (Ok t))
   unfolding read_from list_from
   on_end t q = go g.fuel g.enough g.reads g.lists
     where
       clips_are : d.clips ≡ c + t.clips
-      clips_are = omega (arith, g.clips_are, (facts (End t) q).counted.0.clips)
+      clips_are = omega (arith, g.clips_are, (facts (Ok (End t)) q).counted.0.clips)
 
       commands_are : d.commands ≡ m + t.commands
-      commands_are = omega (arith, g.commands_are, (facts (End t) q).tally.resting (facts (End t) q).counted.1)
+      commands_are = omega (arith, g.commands_are, (facts (Ok (End t)) q).tally.resting (facts (Ok (End t)) q).counted.1)
 
       done : Room (c + t.clips) (m + t.commands) z → Listed s m z y d g.listing → g.listing.commands ≡ commands_of s at → Recorded s at c m z y t
-      done u h e = let n : t.commands ≡ length g.listing.commands = (facts (End t) q).tally.resting (facts (End t) q).counted.1 in record {
+      done u h e = let n : t.commands ≡ length g.listing.commands = (facts (Ok (End t)) q).tally.resting (facts (Ok (End t)) q).counted.1 in record {
         held = record {
           stored = record {
             used = d.clips;
@@ -414,21 +415,21 @@ module _ (s : List ℕ) (at c m : ℕ) (z : Space) (st : Cursor) (d : ListState)
         listed = ap (commands_in s y.boxes y.below y.items m) n ∙ h.listed ∙ e;
       }
 
-      go : (k : ℕ) → length s - st.at < k → read_from k s st ≡ read_strip s at → (list_from k s st g.listing).commands ≡ commands_of s at → (Read t ≡ read_strip s at) × (SameLengths z y × Records s at c m z y (Read t))
+      go : (k : ℕ) → length s - st.at < k → read_from k s st ≡ read_strip s at → (list_from k s st g.listing).commands ≡ commands_of s at → ((Ok t) ≡ read_strip s at) × (SameLengths z y × Records s at c m z y (Ok t))
       go zero a b e = absurd (omega arith)
       go (suc k) a b e = (
         sym (ap (λ v. on_step v (read_from k s)) (sym p ∙ q)) ∙ b,
         (
           g.lengths,
-          λ h u. done u (g.holds h record { boxes = omega (arith, u.boxes, clips_are); below = omega (arith, u.below, clips_are); items = omega (arith, u.items, commands_are); item_boxes = omega (arith, u.item_boxes, commands_are) }) (sym (ap (λ (v : Step). (on_next v g.listing (λ (u : Cursor). list_from k s u (noted s g.listing v))).commands) (sym p ∙ q)) ∙ e),
+          λ h u. done u (g.holds h record { boxes = omega (arith, u.boxes, clips_are); below = omega (arith, u.below, clips_are); items = omega (arith, u.items, commands_are); item_boxes = omega (arith, u.item_boxes, commands_are) }) (sym (ap (λ (v : Result Step Refusal). (on_next v g.listing (λ (u : Cursor). list_from k s u (noted s g.listing v))).commands) (sym p ∙ q)) ∙ e),
         ),
       )
 
-  pub on_refused : (n k : ℕ) → r ≡ Refused n k → (TurnedAway n k ≡ read_strip s at) × (SameLengths z y × Records s at c m z y (TurnedAway n k))
+  pub on_refused : (why : Refusal) → r ≡ Err why → (Err why ≡ read_strip s at) × (SameLengths z y × Records s at c m z y (Err why))
   unfolding read_from
-  on_refused n k q = go g.fuel g.enough g.reads
+  on_refused why q = go g.fuel g.enough g.reads
     where
-      go : (f : ℕ) → length s - st.at < f → read_from f s st ≡ read_strip s at → (TurnedAway n k ≡ read_strip s at) × (SameLengths z y × Records s at c m z y (TurnedAway n k))
+      go : (f : ℕ) → length s - st.at < f → read_from f s st ≡ read_strip s at → ((Err why) ≡ read_strip s at) × (SameLengths z y × Records s at c m z y (Err why))
       go zero a b = absurd (omega arith)
       go (suc f) a b = (sym (ap (λ v. on_step v (read_from f s)) (sym p ∙ q)) ∙ b, (g.lengths, tt))
 
@@ -442,7 +443,7 @@ module _ (s : List ℕ) (at c m : ℕ) (z : Space) (d : ListState) (y : Space) w
       let k = on_next_lem s at c m z u d y h.1 (step_at s u) refl t q in
       (omega (arith, h.0, k.0), k.1)
 
-  pub on_passed : (st : Cursor) (g : Going s at c m z st d y) (r : Step) (p : r ≡ step_at s st) (t v : Cursor) → r ≡ Next t → Passes s t v → (length s - v.at < length s - st.at) × Going s at c m z v d y
+  pub on_passed : (st : Cursor) (g : Going s at c m z st d y) (r : Result Step Refusal) (p : r ≡ step_at s st) (t v : Cursor) → r ≡ Ok (Next t) → Passes s t v → (length s - v.at < length s - st.at) × Going s at c m z v d y
   on_passed st g r p t v q w =
       let a = on_next_lem s at c m z st d y g r p t q in
       let b = moves_on w.steps t v a.1 w.moves in

@@ -1,14 +1,11 @@
 -- Strips read into lent space. "Space is checked .. after both strips are read": where there is no room, reading goes on and counts, and nothing is said of
 -- what the space holds.
-use Rattle.std.specs.Prelude.{◌≡◌, List, ℕ, ◌+◌, ◌*◌, ◌≤◌, ◌<◌, length, Float}
+use Rattle.refusals.specs.declared.Refusal.{Refusal}
+use Rattle.std.specs.Prelude.{◌≡◌, List, ℕ, ◌+◌, ◌*◌, ◌≤◌, ◌<◌, length, Float, Result, Ok, Err}
 use Rattle.strip.specs.declared.Cursor.{Cursor}
 use Rattle.strip.specs.Reading.{commands_of}
 use Rattle.strip_laws.specs.Limits.{WhereRead}
-use Rattle.strip.specs.declared.Answer.{Answer}
-use Rattle.frame.specs.declared.First.{First}
-use Rattle.frame.specs.declared.First.TheVariants.{One, NotOne}
-use Rattle.frame.specs.declared.Pair.{Pair}
-use Rattle.frame.specs.declared.Pair.TheVariants.{Both, NotBoth}
+use Rattle.frame.specs.declared.Strips.{Strips}
 use Rattle.stored_lists.specs.Stored.{command_in, commands_in, Stored}
 
 -- the lent space of display lists: the clips' boxes and the numbers below them, the commands' words and boxes
@@ -47,15 +44,15 @@ pub record Recorded (s : List ℕ) (at clips commands : ℕ) (z y : Space) (t : 
   -- and behind it stands the strip's list
   pub listed : commands_in s y.boxes y.below y.items commands t.commands ≡ commands_of s at
 
-abbrev pub Records : List ℕ → ℕ → ℕ → ℕ → Space → Space → Answer → Type 0
+abbrev pub Records : List ℕ → ℕ → ℕ → ℕ → Space → Space → Result Cursor Refusal → Type 0
 Records s at clips commands z y r = WhereRead (λ t. Holds clips commands s z → Room (clips + t.clips) (commands + t.commands) z → Recorded s at clips commands z y t) r
 
 -- ---- a whole input
 -- the strip of a first frame
-abbrev pub RecordsFirst : List ℕ → Space → First → Type 0
-RecordsFirst s y (One new) =
+abbrev pub RecordsFirst : List ℕ → Space → Result Cursor Refusal → Type 0
+RecordsFirst s y (Ok new) =
     Room new.clips new.commands y → Holds new.clips new.commands s y × (commands_in s y.boxes y.below y.items 0 new.commands ≡ commands_of s 12)
-RecordsFirst s y (NotOne n p) = Unit {0}
+RecordsFirst s y (Err why) = Unit {0}
 
 -- the old strip's commands, then the new one's
 pub record Two (s : List ℕ) (old new : Cursor) (y : Space) : Type 0 where
@@ -64,11 +61,11 @@ pub record Two (s : List ℕ) (old new : Cursor) (y : Space) : Type 0 where
   pub new_list : commands_in s y.boxes y.below y.items old.commands new.commands ≡ commands_of s old.at
 
 -- the new strip, recorded behind the old one, which is held
-abbrev pub RecordsNew : List ℕ → Cursor → Space → Space → Pair → Type 0
-RecordsNew s old z y (Both o new) =
-    Holds old.clips old.commands s z → Room (old.clips + new.clips) (old.commands + new.commands) z → Recorded s old.at old.clips old.commands z y new
-RecordsNew s old z y (NotBoth n p) = Unit {0}
+abbrev pub RecordsNew : List ℕ → Cursor → Space → Space → Result Strips Refusal → Type 0
+RecordsNew s old z y (Ok both) =
+    Holds old.clips old.commands s z → Room (old.clips + both.new.clips) (old.commands + both.new.commands) z → Recorded s old.at old.clips old.commands z y both.new
+RecordsNew s old z y (Err why) = Unit {0}
 
-abbrev pub RecordsBoth : List ℕ → Space → Pair → Type 0
-RecordsBoth s y (Both old new) = Room (old.clips + new.clips) (old.commands + new.commands) y → Two s old new y
-RecordsBoth s y (NotBoth n p) = Unit {0}
+abbrev pub RecordsBoth : List ℕ → Space → Result Strips Refusal → Type 0
+RecordsBoth s y (Ok both) = Room (both.old.clips + both.new.clips) (both.old.commands + both.new.commands) y → Two s both.old both.new y
+RecordsBoth s y (Err why) = Unit {0}

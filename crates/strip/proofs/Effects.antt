@@ -7,6 +7,10 @@ use native.Mathlib.Omega.{arith}
 use lib.ListN.{length, get_or}
 use borrow.Author.Tests.{le-leb, lt-leb, lt-ltb, le-ltb, eq-eqb, ne_eqb, eqb-true, eqb-false, ltb-true}
 use lib.Dec.{eqb}
+use Rattle.refusals.specs.declared.Fault.{Fault}
+use Rattle.refusals.specs.declared.Fault.TheVariants.{CutOff, UnknownCode, NoOpenClip, TooMany, GlyphOrder, UnboundedBox}
+use Rattle.refusals.specs.declared.Refusal.{Refusal}
+use Rattle.refusals.specs.Table.{refused}
 use Rattle.lists.proofs.Picks.{pick_true, pick_false}
 use Rattle.strip_format.proofs.Lengths.{length_run}
 use Rattle.little_endian.specs.Words.{u16_at}
@@ -17,9 +21,15 @@ use Rattle.commands.specs.Bounds.{transform_of}
 use Rattle.strip_format.specs.Format.{length_of, rect_at, command_at}
 use Rattle.operand_checks.specs.Operands.{operands_at}
 use Rattle.strip.specs.declared.Cursor.{Cursor}
-use Rattle.strip.specs.declared.Step.TheVariants.{Clip, Pop, Refused}
-use Rattle.strip.specs.Steps.{due_fits, on_box, clip_step, pop_step, draw_step, run_step, announced, announce, Draws, unite, last_step, glyph_step, end_step, effect_of, step_at}
-use Rattle.std.specs.Prelude.{Option, Some, None}
+use Rattle.strip.specs.declared.Step.TheVariants.{Clip, Pop}
+use Rattle.strip.specs.declared.Step.{Step}
+use Rattle.strip.specs.Steps.{due_fits, on_box, on_operands, clip_step, pop_step, draw_step, run_step, announced, announce, Draws, unite, last_step, glyph_step, end_step, effect_of, step_at}
+use Rattle.std.specs.Prelude.{Option, Some, None, Result, Ok, Err}
+
+-- a step by whether its operands pass
+pub operands_cases : (P : Result Step Refusal → Type 0) (at : ℕ) (o : Result (Unit {0}) Fault) (step : Result Step Refusal) → (o ≡ Ok tt → P step) → ((f : Fault) → o ≡ Err f → P (refused f at)) → P (on_operands at o step)
+operands_cases P at (Ok tt) step f g = f refl
+operands_cases P at (Err e) step f g = g e refl
 
 -- a GLYPH that may stand here is due
 pub due_glyph : (b due : ℕ) → b ≡ 6 → due_fits b due ≡ true → 0 < due
@@ -28,23 +38,23 @@ due_glyph b due e h = ltb-true 0 due (sym (ap (λ (n : ℕ). due_fits n due) e) 
 
 module _ (s : List ℕ) (st : Cursor) where
   -- ---- CLIP and POP
-  pub clip_deep : 32 ≤ st.depth → Refused 6 st.at ≡ clip_step s st
+  pub clip_deep : 32 ≤ st.depth → refused TooMany st.at ≡ clip_step s st
   unfolding clip_step
   clip_deep h = rw (le-leb 32 st.depth h)
 
-  pub clip_many : st.depth < 32 → 4096 ≤ st.clips → Refused 6 st.at ≡ clip_step s st
+  pub clip_many : st.depth < 32 → 4096 ≤ st.clips → refused TooMany st.at ≡ clip_step s st
   unfolding clip_step
   clip_many h k = rw (lt-leb 32 st.depth h, le-leb 4096 st.clips k)
 
-  pub clip_read : (box : Rect) → box ≡ rect_at s (st.at + 1) → st.depth < 32 → st.clips < 4096 → Clip (record { at = st.at + 33; depth = st.depth + 1; clips = st.clips + 1; commands = st.commands; glyphs = st.glyphs; due = st.due; run = st.run; united = st.united }) box ≡ clip_step s st
+  pub clip_read : (box : Rect) → box ≡ rect_at s (st.at + 1) → st.depth < 32 → st.clips < 4096 → Ok (Clip (record { at = st.at + 33; depth = st.depth + 1; clips = st.clips + 1; commands = st.commands; glyphs = st.glyphs; due = st.due; run = st.run; united = st.united }) box) ≡ clip_step s st
   unfolding clip_step
-  clip_read box e h k = rw (lt-leb 32 st.depth h, lt-leb 4096 st.clips k) (ap (λ (b : Rect). Clip (record { at = st.at + 33; depth = st.depth + 1; clips = st.clips + 1; commands = st.commands; glyphs = st.glyphs; due = st.due; run = st.run; united = st.united }) b) e)
+  clip_read box e h k = rw (lt-leb 32 st.depth h, lt-leb 4096 st.clips k) (ap (λ (b : Rect). Ok (Clip (record { at = st.at + 33; depth = st.depth + 1; clips = st.clips + 1; commands = st.commands; glyphs = st.glyphs; due = st.due; run = st.run; united = st.united }) b)) e)
 
-  pub pop_none : st.depth ≡ 0 → Refused 5 st.at ≡ pop_step st
+  pub pop_none : st.depth ≡ 0 → refused NoOpenClip st.at ≡ pop_step st
   unfolding pop_step
   pop_none h = rw (eq-eqb st.depth 0 h)
 
-  pub pop_read : (st.depth ≡ 0 → ⊥) → Pop (record { at = st.at + 1; depth = st.depth - 1; clips = st.clips; commands = st.commands; glyphs = st.glyphs; due = st.due; run = st.run; united = st.united }) ≡ pop_step st
+  pub pop_read : (st.depth ≡ 0 → ⊥) → Ok (Pop (record { at = st.at + 1; depth = st.depth - 1; clips = st.clips; commands = st.commands; glyphs = st.glyphs; due = st.due; run = st.run; united = st.united })) ≡ pop_step st
   unfolding pop_step
   pop_read h = rw (ne_eqb st.depth 0 h)
 
@@ -72,10 +82,10 @@ module _ (s : List ℕ) (st : Cursor) where
     pub glyph_box : (own : Rect) → b ≡ rect_at s (st.at + 13) → st.glyphs < 16384 → r ≡ Some own → last_step s st b ≡ glyph_step s st
     glyph_box own u h k = sym (glyph_by u h ∙ ap (λ (t : Option Rect). on_box st.at t (λ own. last_step s st b)) k)
 
-    pub glyph_not_finite : b ≡ rect_at s (st.at + 13) → st.glyphs < 16384 → r ≡ None → Refused 9 st.at ≡ glyph_step s st
+    pub glyph_not_finite : b ≡ rect_at s (st.at + 13) → st.glyphs < 16384 → r ≡ None → refused UnboundedBox st.at ≡ glyph_step s st
     glyph_not_finite u h k = sym (glyph_by u h ∙ ap (λ (t : Option Rect). on_box st.at t (λ own. last_step s st b)) k)
 
-  pub glyph_many : 16384 ≤ st.glyphs → Refused 6 st.at ≡ glyph_step s st
+  pub glyph_many : 16384 ≤ st.glyphs → refused TooMany st.at ≡ glyph_step s st
   unfolding glyph_step
   glyph_many h = rw (le-leb 16384 st.glyphs h)
 
@@ -127,29 +137,29 @@ module _ (s : List ℕ) (st : Cursor) where
       by false q = absurd (some (e ∙ pick_false (eqb b 5) (u16_at s (st.at + 101)) 0 q))
 
   -- ---- the step, by the checks in their order
-  pub step_past : length s ≤ st.at → Refused 2 (length s) ≡ step_at s st
+  pub step_past : length s ≤ st.at → refused CutOff (length s) ≡ step_at s st
   unfolding step_at
   step_past h = rw (le-ltb st.at (length s) h)
 
   module _ (b : ℕ) (is : get_or s st.at 0 ≡ b) (inside : st.at < length s) where
-    pub step_unknown : 7 < b → Refused 3 st.at ≡ step_at s st
+    pub step_unknown : 7 < b → refused UnknownCode st.at ≡ step_at s st
     unfolding step_at
     step_unknown h = rw (lt-ltb st.at (length s) inside, is, lt-leb b 7 h)
 
     module _ (known : b ≤ 7) where
-      pub step_due : due_fits b st.due ≡ false → Refused 7 st.at ≡ step_at s st
+      pub step_due : due_fits b st.due ≡ false → refused GlyphOrder st.at ≡ step_at s st
       unfolding step_at
       step_due h = rw (lt-ltb st.at (length s) inside, is, le-leb b 7 known, h)
 
       module _ (due : due_fits b st.due ≡ true) where
-        pub step_short : length s - st.at < length_of b → Refused 2 st.at ≡ step_at s st
+        pub step_short : length s - st.at < length_of b → refused CutOff st.at ≡ step_at s st
         unfolding step_at
         step_short h = rw (lt-ltb st.at (length s) inside, is, le-leb b 7 known, due, lt-ltb (length s - st.at) (length_of b) h)
 
-        pub step_operands : (n : ℕ) → length_of b ≤ length s - st.at → n ≡ operands_at s st.at b → (n ≡ 0 → ⊥) → Refused n st.at ≡ step_at s st
+        pub step_operands : (f : Fault) → length_of b ≤ length s - st.at → operands_at s st.at b ≡ Err f → refused f st.at ≡ step_at s st
         unfolding step_at
-        step_operands n h e k = rw (lt-ltb st.at (length s) inside, is, le-leb b 7 known, due, le-ltb (length s - st.at) (length_of b) h, sym e, ne_eqb n 0 k)
+        step_operands f h e = rw (lt-ltb st.at (length s) inside, is, le-leb b 7 known, due, le-ltb (length s - st.at) (length_of b) h, e)
 
-        pub step_effect : (n : ℕ) → length_of b ≤ length s - st.at → n ≡ operands_at s st.at b → n ≡ 0 → effect_of s st b ≡ step_at s st
+        pub step_effect : length_of b ≤ length s - st.at → operands_at s st.at b ≡ Ok tt → effect_of s st b ≡ step_at s st
         unfolding step_at
-        step_effect n h e k = rw (lt-ltb st.at (length s) inside, is, le-leb b 7 known, due, le-ltb (length s - st.at) (length_of b) h, sym e, eq-eqb n 0 k)
+        step_effect h e = rw (lt-ltb st.at (length s) inside, is, le-leb b 7 known, due, le-ltb (length s - st.at) (length_of b) h, e)

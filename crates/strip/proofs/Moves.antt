@@ -7,6 +7,7 @@ use native.Mathlib.Omega.{arith}
 use lib.Dec.{leb, ltb, eqb}
 use lib.ListN.{length, get_or}
 use borrow.Author.Tests.{ltb-true, ltb-false, eqb-true}
+use Rattle.refusals.specs.declared.Refusal.{Refusal}
 use Rattle.lists.proofs.Picks.{pick_cases}
 use Rattle.little_endian.specs.Words.{u16_at}
 use Rattle.geometry.specs.declared.Rect.{Rect}
@@ -17,27 +18,26 @@ use Rattle.strip_format.proofs.Lengths.{length_pos, length_clip, length_pop, len
 use Rattle.operand_checks.specs.Operands.{operands_at}
 use Rattle.strip.specs.declared.Cursor.{Cursor}
 use Rattle.strip.specs.declared.Step.{Step}
-use Rattle.strip.specs.declared.Step.TheVariants.{Next, Clip, Pop, Draw, End, Refused}
-use Rattle.strip.specs.declared.Answer.{Answer}
-use Rattle.strip.specs.declared.Answer.TheVariants.{Read, Refused as TurnedAway}
+use Rattle.strip.specs.declared.Step.TheVariants.{Next, Clip, Pop, Draw, End}
 use Rattle.strip.specs.Steps.{start_at, due_fits, on_box, clip_step, pop_step, drawn, draw_step, run_step, unite, glyph_read, last_step, glyph_step, effect_of, step_at}
+use Rattle.strip.proofs.Effects.{operands_cases}
 use Rattle.strip.specs.Reading.{on_step, read_from, read_strip}
-use Rattle.std.specs.Prelude.{Option, Some, None}
+use Rattle.std.specs.Prelude.{Option, Some, None, Result, Ok, Err}
 
 -- past a byte, and not past the n bytes there are
 abbrev pub Ahead : ℕ → Cursor → Cursor → Type 0
 Ahead n st t = (st.at < t.at) × (t.at ≤ n)
 
-abbrev pub Moved : ℕ → Cursor → Step → Type 0
-Moved n st (Next t) = Ahead n st t
-Moved n st (Clip t box) = Ahead n st t
-Moved n st (Pop t) = Ahead n st t
-Moved n st (Draw t at box) = Ahead n st t
-Moved n st (End t) = Ahead n st t
-Moved n st (Refused k p) = Unit {0}
+abbrev pub Moved : ℕ → Cursor → Result Step Refusal → Type 0
+Moved n st (Ok (Next t)) = Ahead n st t
+Moved n st (Ok (Clip t box)) = Ahead n st t
+Moved n st (Ok (Pop t)) = Ahead n st t
+Moved n st (Ok (Draw t at box)) = Ahead n st t
+Moved n st (Ok (End t)) = Ahead n st t
+Moved n st (Err r) = Unit {0}
 
 module _ (n : ℕ) (st : Cursor) where
-  on_box_lem : (at : ℕ) (r : Option Rect) (k : Rect → Step) → ((box : Rect) → Moved n st (k box)) → Moved n st (on_box at r k)
+  on_box_lem : (at : ℕ) (r : Option Rect) (k : Rect → Result Step Refusal) → ((box : Rect) → Moved n st (k box)) → Moved n st (on_box at r k)
   on_box_lem at (Some box) k h = h box
   on_box_lem at None k h = tt
 
@@ -51,7 +51,7 @@ module _ (n : ℕ) (st : Cursor) where
 
   draw_moves : (s : List ℕ) (len : ℕ) → 0 < len → st.at + len ≤ n → Moved n st (draw_step s st len)
   unfolding draw_step
-  draw_moves s len p h = pick_cases (Moved n st) (leb 4096 st.commands) _ _ (λ e. tt) (λ e. on_box_lem st.at (try_with (command_at s st.at) st.united) (λ box. Draw (drawn st len 0) st.at box) (λ box. (omega arith, h)))
+  draw_moves s len p h = pick_cases (Moved n st) (leb 4096 st.commands) _ _ (λ e. tt) (λ e. on_box_lem st.at (try_with (command_at s st.at) st.united) (λ box. Ok (Draw (drawn st len 0) st.at box)) (λ box. (omega arith, h)))
 
   run_moves : (s : List ℕ) → st.at + 103 ≤ n → Moved n st (run_step s st)
   unfolding run_step
@@ -59,7 +59,7 @@ module _ (n : ℕ) (st : Cursor) where
 
   last_moves : (s : List ℕ) (box : Rect) → st.at + 45 ≤ n → Moved n st (last_step s st box)
   unfolding last_step
-  last_moves s box h = pick_cases (Moved n st) (eqb st.due 1) _ _ (λ e. on_box_lem st.at (try_transform (transform_of (command_at s st.run)) (unite st box)) (λ whole. Draw (glyph_read st box) st.run whole) (λ whole. (omega arith, h))) (λ e. (omega arith, h))
+  last_moves s box h = pick_cases (Moved n st) (eqb st.due 1) _ _ (λ e. on_box_lem st.at (try_transform (transform_of (command_at s st.run)) (unite st box)) (λ whole. Ok (Draw (glyph_read st box) st.run whole)) (λ whole. (omega arith, h))) (λ e. (omega arith, h))
 
   glyph_moves : (s : List ℕ) → st.at + 45 ≤ n → Moved n st (glyph_step s st)
   unfolding glyph_step
@@ -79,7 +79,7 @@ effect_moves s st b h =
     λ e. pick_cases M (eqb b 6) _ _ (λ e. glyph_moves (length s) st s (omega (arith, at_byte st.at (length s) b 6 h (eqb-true _ _ e), length_glyph)))
     λ e. draw_moves (length s) st s (length_of b) (length_pos b) h
   where
-    M : Step → Type 0
+    M : Result Step Refusal → Type 0
     M x = Moved (length s) st x
 
 pub step_moves : (s : List ℕ) (st : Cursor) → Moved (length s) st (step_at s st)
@@ -89,7 +89,7 @@ step_moves s st =
     (λ a. pick_cases M (leb b 7) _ _
     (λ e. pick_cases M (due_fits b st.due) _ _
     (λ e. pick_cases M (ltb (length s - st.at) (length_of b)) _ _ (λ e. tt)
-    (λ l. pick_cases M (eqb (operands_at s st.at b) 0) _ _ (λ e. effect_moves s st b (fits a l)) (λ e. tt)))
+    (λ l. operands_cases M st.at (operands_at s st.at b) _ (λ e. effect_moves s st b (fits a l)) (λ f e. tt)))
     (λ e. tt))
     (λ e. tt))
     (λ e. tt)
@@ -97,7 +97,7 @@ step_moves s st =
     b : ℕ
     b = get_or s st.at 0
 
-    M : Step → Type 0
+    M : Result Step Refusal → Type 0
     M x = Moved (length s) st x
 
     fits : ltb st.at (length s) ≡ true → ltb (length s - st.at) (length_of b) ≡ false → st.at + length_of b ≤ length s
@@ -111,10 +111,10 @@ pub rest_start : (s : List ℕ) (at : ℕ) (st : Cursor) → st ≡ start_at at 
 rest_start s at st e = rw e (suc (length s), omega arith, refl)
 
 -- a step r that goes on to t, whatever is done there
-abbrev GoesTo : Step → Cursor → Type 0
-GoesTo r t = (k : Cursor → Answer) → on_step r k ≡ k t
+abbrev GoesTo : Result Step Refusal → Cursor → Type 0
+GoesTo r t = (k : Cursor → Result Cursor Refusal) → on_step r k ≡ k t
 
-module _ (s : List ℕ) (at : ℕ) (st : Cursor) (r : Step) (rest : Rest s at st) (p : r ≡ step_at s st) where
+module _ (s : List ℕ) (at : ℕ) (st : Cursor) (r : Result Step Refusal) (rest : Rest s at st) (p : r ≡ step_at s st) where
   advance : (t : Cursor) → Ahead (length s) st t → GoesTo r t → (length s - t.at < length s - st.at) × Rest s at t
   unfolding read_from
   advance t a g = go rest
@@ -123,33 +123,33 @@ module _ (s : List ℕ) (at : ℕ) (st : Cursor) (r : Step) (rest : Rest s at st
       go (zero, b, c) = absurd (omega arith)
       go (suc k, b, c) = (omega (arith, a.0, a.1), (k, omega (arith, a.0, a.1), sym (ap (λ x. on_step x (read_from k s)) (sym p) ∙ g (read_from k s)) ∙ c))
 
-  moved : (x : Step) → r ≡ x → Moved (length s) st x
+  moved : (x : Result Step Refusal) → r ≡ x → Moved (length s) st x
   moved x q = subst (Moved (length s) st) (sym p ∙ q) (step_moves s st)
 
-  pub on_next_lem : (t : Cursor) → r ≡ Next t → (length s - t.at < length s - st.at) × Rest s at t
-  on_next_lem t q = advance t (moved (Next t) q) (λ k. ap (λ x. on_step x k) q)
+  pub on_next_lem : (t : Cursor) → r ≡ Ok (Next t) → (length s - t.at < length s - st.at) × Rest s at t
+  on_next_lem t q = advance t (moved (Ok (Next t)) q) (λ k. ap (λ x. on_step x k) q)
 
-  pub on_clip : (t : Cursor) (box : Rect) → r ≡ Clip t box → (length s - t.at < length s - st.at) × Rest s at t
-  on_clip t box q = advance t (moved (Clip t box) q) (λ k. ap (λ x. on_step x k) q)
+  pub on_clip : (t : Cursor) (box : Rect) → r ≡ Ok (Clip t box) → (length s - t.at < length s - st.at) × Rest s at t
+  on_clip t box q = advance t (moved (Ok (Clip t box)) q) (λ k. ap (λ x. on_step x k) q)
 
-  pub on_pop : (t : Cursor) → r ≡ Pop t → (length s - t.at < length s - st.at) × Rest s at t
-  on_pop t q = advance t (moved (Pop t) q) (λ k. ap (λ x. on_step x k) q)
+  pub on_pop : (t : Cursor) → r ≡ Ok (Pop t) → (length s - t.at < length s - st.at) × Rest s at t
+  on_pop t q = advance t (moved (Ok (Pop t)) q) (λ k. ap (λ x. on_step x k) q)
 
-  pub on_draw : (t : Cursor) (from : ℕ) (box : Rect) → r ≡ Draw t from box → (length s - t.at < length s - st.at) × Rest s at t
-  on_draw t from box q = advance t (moved (Draw t from box) q) (λ k. ap (λ x. on_step x k) q)
+  pub on_draw : (t : Cursor) (from : ℕ) (box : Rect) → r ≡ Ok (Draw t from box) → (length s - t.at < length s - st.at) × Rest s at t
+  on_draw t from box q = advance t (moved (Ok (Draw t from box)) q) (λ k. ap (λ x. on_step x k) q)
 
-  pub on_end : (t : Cursor) → r ≡ End t → Read t ≡ read_strip s at
+  pub on_end : (t : Cursor) → r ≡ Ok (End t) → Ok t ≡ read_strip s at
   unfolding read_from
   on_end t q = go rest
     where
-      go : Rest s at st → Read t ≡ read_strip s at
+      go : Rest s at st → Ok t ≡ read_strip s at
       go (zero, b, c) = absurd (omega arith)
       go (suc k, b, c) = sym (ap (λ x. on_step x (read_from k s)) (sym p ∙ q)) ∙ c
 
-  pub on_refused : (n m : ℕ) → r ≡ Refused n m → TurnedAway n m ≡ read_strip s at
+  pub on_refused : (f : Refusal) → r ≡ Err f → Err f ≡ read_strip s at
   unfolding read_from
-  on_refused n m q = go rest
+  on_refused f q = go rest
     where
-      go : Rest s at st → TurnedAway n m ≡ read_strip s at
+      go : Rest s at st → Err f ≡ read_strip s at
       go (zero, b, c) = absurd (omega arith)
       go (suc k, b, c) = sym (ap (λ x. on_step x (read_from k s)) (sym p ∙ q)) ∙ c

@@ -4,6 +4,7 @@ use mathlib.Core.Bool.{true}
 use mathlib.Core.List.{List}
 use Prim.Native.Nat.{ℕ, ◌+◌}
 use native.Mathlib.Omega.{arith}
+use Rattle.std.specs.Prelude.{Ok}
 use Rattle.geometry.specs.declared.Rect.{Rect}
 use Rattle.affine.specs.declared.Affine.{Affine}
 use Rattle.affine.specs.Affines.{finite_corners}
@@ -39,5 +40,5 @@ module _ (s : List ℕ) where
       }
 
   -- so it is a step that only moves the cursor
-  pub near_step : (run : ℕ) (st t : Cursor) {b : Rect} → NearRun s run → st.run ≡ run → NearGoesOn s st → b ≡ rect_at s (st.at + 13) → t ≡ glyph_read st b → step_at s st ≡ Next t
-  near_step run st t r e w f g = goes_on s st (transform_of (command_at s st.run)) refl (near_passes st (subst (NearRun s) (sym e) r) w) ∙ ap Next (sym (glyph_read_lem st t _ _ f g))
+  pub near_step : (run : ℕ) (st t : Cursor) {b : Rect} → NearRun s run → st.run ≡ run → NearGoesOn s st → b ≡ rect_at s (st.at + 13) → t ≡ glyph_read st b → step_at s st ≡ Ok (Next t)
+  near_step run st t r e w f g = goes_on s st (transform_of (command_at s st.run)) refl (near_passes st (subst (NearRun s) (sym e) r) w) ∙ ap (λ (x : Cursor). Ok (Next x)) (sym (glyph_read_lem st t _ _ f g))

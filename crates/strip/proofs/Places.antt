@@ -8,6 +8,7 @@ use lib.Dec.{eqb}
 use lib.ListN.{length}
 use lib.Ieee.{Float}
 use borrow.Author.Tests.{eqb-true, eqb-false, eq-eqb}
+use Rattle.std.specs.Prelude.{Ok}
 use Rattle.lists.proofs.Picks.{pick_true}
 use Rattle.little_endian.specs.Words.{u16_at}
 use Rattle.geometry.specs.declared.Rect.{Rect}
@@ -28,10 +29,10 @@ use Rattle.strip.specs.Effects.{Stands, DrawsAt, affine_offset, rect_offset, Own
 -- the boxes of a CLIP and of a GLYPH
 module _ (s : List ℕ) (at b : ℕ) (w : Stands s at b) where
   pub clip_known : b ≡ 1 → FourFinite s (at + 1)
-  clip_known e = clip_finite s at (subst (λ (n : ℕ). operands_at s at n ≡ 0) e w.operands)
+  clip_known e = clip_finite s at (subst (λ (n : ℕ). operands_at s at n ≡ Ok tt) e w.operands)
 
   pub glyph_known : b ≡ 6 → FourFinite s (at + 13)
-  glyph_known e = glyph_finite s at (glyph_floats s at (subst (λ (n : ℕ). operands_at s at n ≡ 0) e w.operands))
+  glyph_known e = glyph_finite s at (glyph_floats s at (subst (λ (n : ℕ). operands_at s at n ≡ Ok tt) e w.operands))
 
 -- by whether a number is another
 either : {P : Type 0} (b k : ℕ) → (b ≡ k → P) → ((b ≡ k → ⊥) → P) → P

@@ -6,6 +6,8 @@ use Prim.Native.Nat.{ℕ, zero, suc, ◌+◌, ◌≤◌, ◌<◌}
 use native.Mathlib.Omega.{arith}
 use borrow.Author.Tests.{lt-ltb, eq-eqb, ne_eqb}
 use lib.Dec.{leb, eqb}
+use Rattle.refusals.specs.declared.Fault.TheVariants.{TooMany, UnboundedBox}
+use Rattle.refusals.specs.Table.{refused}
 use Rattle.lists.specs.Pick.{pick}
 use Rattle.lists.proofs.Picks.{pick_true, pick_false, pick_map}
 use Rattle.geometry.specs.declared.Rect.{Rect}
@@ -19,19 +21,19 @@ use Rattle.operand_checks.specs.Operands.{finite_glyph, operands_at}
 use Rattle.strip.specs.declared.Cursor.{Cursor}
 use Rattle.strip.specs.declared.Effect.{Effect}
 use Rattle.strip.specs.declared.Effect.TheVariants.{Drawn, Done}
-use Rattle.strip.specs.declared.Step.TheVariants.{Next, Draw, Refused}
+use Rattle.strip.specs.declared.Step.TheVariants.{Next, Draw}
 use Rattle.strip.specs.Steps.{due_fits, on_box, drawn, draw_step, glyph_read, last_step, glyph_step, step_at}
-use Rattle.strip.specs.Effects.{settled, draw_effect, last_effect, OwnBounds, GoesOn, Moves, Passes}
+use Rattle.strip.specs.Effects.{settle, settled, draw_effect, last_effect, OwnBounds, GoesOn, Moves, Passes}
 use Rattle.strip.proofs.Effects.{glyph_box, glyph_not_finite, effect_glyph, step_effect}
-use Rattle.std.specs.Prelude.{Option, Some, None}
+use Rattle.std.specs.Prelude.{Option, Some, None, Ok}
 
 -- ---- an effect that was taken apart
 module _ (e : Effect) (t : Cursor) (o at : ℕ) (m : Affine) (b : Rect) (r : Option Rect) (p : e ≡ Drawn t o at m b) (q : r ≡ try_transform m b) where
-  pub settled_box : (w : Rect) → r ≡ Some w → Draw t o w ≡ settled e
-  settled_box w f = sym (ap settled p ∙ ap (λ (x : Option Rect). on_box at x (λ v. Draw t o v)) (sym q ∙ f))
+  pub settled_box : (w : Rect) → r ≡ Some w → Ok (Draw t o w) ≡ settle e
+  settled_box w f = sym (ap settle p ∙ ap (λ (x : Option Rect). on_box at x (λ v. Ok (Draw t o v))) (sym q ∙ f))
 
-  pub settled_not_finite : r ≡ None → Refused 9 at ≡ settled e
-  settled_not_finite f = sym (ap settled p ∙ ap (λ (x : Option Rect). on_box at x (λ v. Draw t o v)) (sym q ∙ f))
+  pub settled_not_finite : r ≡ None → refused UnboundedBox at ≡ settle e
+  settled_not_finite f = sym (ap settle p ∙ ap (λ (x : Option Rect). on_box at x (λ v. Ok (Draw t o v))) (sym q ∙ f))
 
 -- ---- the last glyph of a run, and one that is not
 module _ (st : Cursor) (m : Affine) (b : Rect) where
@@ -49,31 +51,31 @@ module _ (s : List ℕ) where
       pub draw_settles : (len : ℕ) → settled (draw_effect st m b len) ≡ draw_step s st len
       unfolding draw_step
       draw_settles len =
-          pick_map settled (leb 4096 st.commands) (Done (Refused 6 st.at)) (Drawn (drawn st len 0) st.at st.at m b)
-          ∙ (λ i. pick (leb 4096 st.commands) (Refused 6 st.at) (on_box st.at (try_transform (e i) (f st.united i)) (λ box. Draw (drawn st len 0) st.at box)))
+          pick_map settled (leb 4096 st.commands) (refused TooMany st.at) (Ok (Drawn (drawn st len 0) st.at st.at m b))
+          ∙ (λ i. pick (leb 4096 st.commands) (refused TooMany st.at) (on_box st.at (try_transform (e i) (f st.united i)) (λ box. Ok (Draw (drawn st len 0) st.at box))))
 
     -- both, by the affine of the run
     module _ (m : Affine) (b : Rect) where
-      more_settles : (st.due ≡ 1 → ⊥) → Next (glyph_read st b) ≡ last_step s st b
+      more_settles : (st.due ≡ 1 → ⊥) → Ok (Next (glyph_read st b)) ≡ last_step s st b
       unfolding last_step
       more_settles h = sym (pick_false _ _ _ (ne_eqb st.due 1 h))
 
-      pub last_settles : m ≡ transform_of (command_at s st.run) → settled (last_effect st m b) ≡ last_step s st b
+      pub last_settles : m ≡ transform_of (command_at s st.run) → settle (last_effect st m b) ≡ last_step s st b
       unfolding last_effect last_step
       last_settles f =
-          pick_map settled (eqb st.due 1) (Drawn (glyph_read st b) st.run st.at m (glyph_read st b).united) (Done (Next (glyph_read st b)))
-          ∙ (λ i. pick (eqb st.due 1) (settled (Drawn (glyph_read st b) st.run st.at (f i) (glyph_read st b).united)) (Next (glyph_read st b)))
+          pick_map settle (eqb st.due 1) (Drawn (glyph_read st b) st.run st.at m (glyph_read st b).united) (Done (Next (glyph_read st b)))
+          ∙ (λ i. pick (eqb st.due 1) (settle (Drawn (glyph_read st b) st.run st.at (f i) (glyph_read st b).united)) (Ok (Next (glyph_read st b))))
 
     -- ---- a glyph by the test of its corners alone
     module _ (b : Rect) (e : b ≡ rect_at s (st.at + 13)) (h : st.glyphs < 16384) where
       pub corners_finite : finite_corners (transform_of (command_at s st.run)) b ≡ true → last_step s st b ≡ glyph_step s st
       corners_finite t = glyph_box s st b _ refl _ e h (corners_yes (transform_of (command_at s st.run)) b t)
 
-      pub corners_not_finite : finite_corners (transform_of (command_at s st.run)) b ≡ false → Refused 9 st.at ≡ glyph_step s st
+      pub corners_not_finite : finite_corners (transform_of (command_at s st.run)) b ≡ false → refused UnboundedBox st.at ≡ glyph_step s st
       corners_not_finite t = glyph_not_finite s st b _ refl e h (corners_no (transform_of (command_at s st.run)) b t)
 
     -- ---- a glyph that only moves the cursor
-    operands_pass : finite_glyph s st.at ≡ true → operands_at s st.at 6 ≡ 0
+    operands_pass : finite_glyph s st.at ≡ true → operands_at s st.at 6 ≡ Ok tt
     unfolding operands_at
     operands_pass e = rw e
 
@@ -81,9 +83,9 @@ module _ (s : List ℕ) where
     unfolding due_fits
     due_more h = lt-ltb 0 st.due (omega arith)
 
-    pub goes_on : (t : Affine) → t ≡ transform_of (command_at s st.run) → GoesOn s st t → step_at s st ≡ Next (glyph_read st (rect_at s (st.at + 13)))
+    pub goes_on : (t : Affine) → t ≡ transform_of (command_at s st.run) → GoesOn s st t → step_at s st ≡ Ok (Next (glyph_read st (rect_at s (st.at + 13))))
     goes_on t e w =
-        sym (step_effect s st 6 w.due.byte (omega (arith, w.due.room)) (omega arith) (due_more w.due.more) 0 (omega (arith, w.due.room, length_glyph)) (sym (operands_pass w.operands)) refl)
+        sym (step_effect s st 6 w.due.byte (omega (arith, w.due.room)) (omega arith) (due_more w.due.more) (omega (arith, w.due.room, length_glyph)) (operands_pass w.operands))
         ∙ sym (effect_glyph s st 6 refl)
         ∙ sym (corners_finite (rect_at s (st.at + 13)) refl w.due.count (ap (λ (x : Affine). finite_corners x (rect_at s (st.at + 13))) (sym e) ∙ w.corners))
         ∙ sym (more_settles t (rect_at s (st.at + 13)) (λ z. omega (arith, w.due.more)))
@@ -92,7 +94,7 @@ module _ (s : List ℕ) where
   unfolding Moves
   passes_none st = record { steps = 0; moves = refl }
 
-  pub passes_one : (st u t : Cursor) → Passes s st u → step_at s u ≡ Next t → Passes s st t
+  pub passes_one : (st u t : Cursor) → Passes s st u → step_at s u ≡ Ok (Next t) → Passes s st t
   unfolding Moves
   passes_one st u t w e = record { steps = suc w.steps; moves = (u, w.moves, e) }
 

@@ -1,5 +1,8 @@
 -- What a step is, once the box of what it draws is transformed; what is known of a command whose operands passed; and steps that only move the cursor.
-use Rattle.std.specs.Prelude.{◌≡◌, true, List, ℕ, zero, suc, ◌+◌, ◌≤◌, ◌<◌, leb, eqb, length, get_or}
+use Rattle.refusals.specs.declared.Fault.TheVariants.{TooMany}
+use Rattle.refusals.specs.declared.Refusal.{Refusal}
+use Rattle.refusals.specs.Table.{refused}
+use Rattle.std.specs.Prelude.{◌≡◌, true, List, ℕ, zero, suc, ◌+◌, ◌≤◌, ◌<◌, leb, eqb, length, get_or, Result, Ok, Err}
 use Rattle.lists.specs.Pick.{pick}
 use Rattle.geometry.specs.declared.Rect.{Rect}
 use Rattle.affine.specs.declared.Affine.{Affine}
@@ -13,16 +16,20 @@ use Rattle.strip.specs.declared.Cursor.{Cursor}
 use Rattle.strip.specs.declared.Effect.{Effect}
 use Rattle.strip.specs.declared.Effect.TheVariants.{Drawn, Done}
 use Rattle.strip.specs.declared.Step.{Step}
-use Rattle.strip.specs.declared.Step.TheVariants.{Next, Draw, Refused}
+use Rattle.strip.specs.declared.Step.TheVariants.{Next, Draw}
 use Rattle.strip.specs.Steps.{on_box, drawn, glyph_read, Draws, step_at}
 
-abbrev pub settled : Effect → Step
-settled (Drawn t offset at m box) = on_box at (try_transform m box) (λ whole. Draw t offset whole)
-settled (Done step) = step
+abbrev pub settle : Effect → Result Step Refusal
+settle (Drawn t offset at m box) = on_box at (try_transform m box) (λ whole. Ok (Draw t offset whole))
+settle (Done step) = Ok step
+
+abbrev pub settled : Result Effect Refusal → Result Step Refusal
+settled (Ok effect) = settle effect
+settled (Err r) = Err r
 
 -- a drawing command of this length that is whole, with its affine and its box
-abbrev pub draw_effect : Cursor → Affine → Rect → ℕ → Effect
-draw_effect st m box len = pick (leb 4096 st.commands) (Done (Refused 6 st.at)) (Drawn (drawn st len 0) st.at st.at m box)
+abbrev pub draw_effect : Cursor → Affine → Rect → ℕ → Result Effect Refusal
+draw_effect st m box len = pick (leb 4096 st.commands) (refused TooMany st.at) (Ok (Drawn (drawn st len 0) st.at st.at m box))
 
 -- a glyph with this box, of a run with this affine: the run's last completes it
 unfoldable pub last_effect : Cursor → Affine → Rect → Effect
@@ -34,7 +41,7 @@ pub record Stands (s : List ℕ) (at b : ℕ) : Type 0 where
   pub byte : get_or s at 0 ≡ b
   pub known : b ≤ 7
   pub room : at + length_of b ≤ length s
-  pub operands : operands_at s at b ≡ 0
+  pub operands : operands_at s at b ≡ Ok tt
 
 -- and draws
 pub record DrawsAt (s : List ℕ) (at b : ℕ) : Type 0 where
@@ -76,7 +83,7 @@ NearRun s at = (kind_at s at ≡ 5) × FourNear s (at + 13) × FourNear s (at + 
 -- n steps from st to t, each of which only moves the cursor
 unfoldable pub Moves : ℕ → List ℕ → Cursor → Cursor → Type 0
 Moves zero s st t = t ≡ st
-Moves (suc n) s st t = (u : Cursor) × (Moves n s st u) × (step_at s u ≡ Next t)
+Moves (suc n) s st t = (u : Cursor) × (Moves n s st u) × (step_at s u ≡ Ok (Next t))
 
 pub record Passes (s : List ℕ) (st t : Cursor) : Type 0 where
   pub steps : ℕ

@@ -1,30 +1,31 @@
 -- Reading a strip to its END: steps, one after the other, and the list of commands that they make.
-use Rattle.std.specs.Prelude.{List, [], ◌∷◌, ◌++◌, ℕ, zero, suc, ◌+◌, ◌-◌, length, take}
+use Rattle.refusals.specs.declared.Fault.TheVariants.{CutOff}
+use Rattle.refusals.specs.declared.Refusal.{Refusal}
+use Rattle.refusals.specs.Table.{refused}
+use Rattle.std.specs.Prelude.{List, [], ◌∷◌, ◌++◌, ℕ, zero, suc, ◌+◌, ◌-◌, length, take, Result, Ok, Err}
 use Rattle.geometry.specs.declared.Rect.{Rect}
 use Rattle.commands.specs.Bounds.{Command, glyph_count}
 use Rattle.strip_format.specs.Format.{command_at, glyphs_from}
 use Rattle.strip.specs.declared.Cursor.{Cursor}
 use Rattle.strip.specs.declared.Step.{Step}
-use Rattle.strip.specs.declared.Step.TheVariants.{Next, Clip, Pop, Draw, End, Refused}
-use Rattle.strip.specs.declared.Answer.{Answer}
-use Rattle.strip.specs.declared.Answer.TheVariants.{Read, Refused as TurnedAway}
+use Rattle.strip.specs.declared.Step.TheVariants.{Next, Clip, Pop, Draw, End}
 use Rattle.strip.specs.Steps.{start_at, step_at}
 
 -- ---- the answer
-abbrev pub on_step : Step → (Cursor → Answer) → Answer
-on_step (Next t) k = k t
-on_step (Clip t box) k = k t
-on_step (Pop t) k = k t
-on_step (Draw t at box) k = k t
-on_step (End t) k = Read t
-on_step (Refused n p) k = TurnedAway n p
+abbrev pub on_step : Result Step Refusal → (Cursor → Result Cursor Refusal) → Result Cursor Refusal
+on_step (Ok (Next t)) k = k t
+on_step (Ok (Clip t box)) k = k t
+on_step (Ok (Pop t)) k = k t
+on_step (Ok (Draw t at box)) k = k t
+on_step (Ok (End t)) k = Ok t
+on_step (Err r) k = Err r
 
 -- each step passes a byte, so one step more than there are bytes is enough
-unfoldable pub read_from : ℕ → List ℕ → Cursor → Answer
-read_from zero s st = TurnedAway 2 (length s)
+unfoldable pub read_from : ℕ → List ℕ → Cursor → Result Cursor Refusal
+read_from zero s st = refused CutOff (length s)
 read_from (suc n) s st = on_step (step_at s st) (λ t. read_from n s t)
 
-abbrev pub read_strip : List ℕ → ℕ → Answer
+abbrev pub read_strip : List ℕ → ℕ → Result Cursor Refusal
 read_strip s at = read_from (suc (length s)) s (start_at at)
 
 -- ---- the list
@@ -42,21 +43,21 @@ pub record Listing : Type 0 where
   pub commands : List Command
 
 -- what a step adds
-abbrev pub noted : List ℕ → Listing → Step → Listing
-noted s l (Next t) = l
-noted s l (Clip t box) = record { clips = l.clips ++ (box ∷ []); commands = l.commands }
-noted s l (Pop t) = record { clips = drop_last l.clips; commands = l.commands }
-noted s l (Draw t at box) = record { clips = l.clips; commands = l.commands ++ (command_of s at l.clips ∷ []) }
-noted s l (End t) = l
-noted s l (Refused n p) = l
+abbrev pub noted : List ℕ → Listing → Result Step Refusal → Listing
+noted s l (Ok (Next t)) = l
+noted s l (Ok (Clip t box)) = record { clips = l.clips ++ (box ∷ []); commands = l.commands }
+noted s l (Ok (Pop t)) = record { clips = drop_last l.clips; commands = l.commands }
+noted s l (Ok (Draw t at box)) = record { clips = l.clips; commands = l.commands ++ (command_of s at l.clips ∷ []) }
+noted s l (Ok (End t)) = l
+noted s l (Err r) = l
 
-abbrev pub on_next : Step → Listing → (Cursor → Listing) → Listing
-on_next (Next t) l k = k t
-on_next (Clip t box) l k = k t
-on_next (Pop t) l k = k t
-on_next (Draw t at box) l k = k t
-on_next (End t) l k = l
-on_next (Refused n p) l k = l
+abbrev pub on_next : Result Step Refusal → Listing → (Cursor → Listing) → Listing
+on_next (Ok (Next t)) l k = k t
+on_next (Ok (Clip t box)) l k = k t
+on_next (Ok (Pop t)) l k = k t
+on_next (Ok (Draw t at box)) l k = k t
+on_next (Ok (End t)) l k = l
+on_next (Err r) l k = l
 
 unfoldable pub list_from : ℕ → List ℕ → Cursor → Listing → Listing
 list_from zero s st l = l

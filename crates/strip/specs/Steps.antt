@@ -1,5 +1,9 @@
 -- One step of reading: the command at the cursor is turned away, or the cursor moves past it. The checks stand in the table's order.
-use Rattle.std.specs.Prelude.{◌≡◌, Bool, List, ℕ, ◌+◌, ◌-◌, leb, ltb, eqb, length, get_or, Option, Some, None}
+use Rattle.refusals.specs.declared.Fault.{Fault}
+use Rattle.refusals.specs.declared.Fault.TheVariants.{CutOff, UnknownCode, NoOpenClip, TooMany, GlyphOrder, UnboundedBox}
+use Rattle.refusals.specs.declared.Refusal.{Refusal}
+use Rattle.refusals.specs.Table.{refused}
+use Rattle.std.specs.Prelude.{◌≡◌, Bool, List, ℕ, ◌+◌, ◌-◌, leb, ltb, eqb, length, get_or, Option, Some, None, Result, Ok, Err}
 use Rattle.std.specs.Float.{binary64}
 use Rattle.std.specs.Float.Ieee.{of_bits}
 use Rattle.lists.specs.Pick.{pick}
@@ -12,7 +16,7 @@ use Rattle.strip_format.specs.Format.{length_of, rect_at, command_at}
 use Rattle.operand_checks.specs.Operands.{operands_at}
 use Rattle.strip.specs.declared.Cursor.{Cursor}
 use Rattle.strip.specs.declared.Step.{Step}
-use Rattle.strip.specs.declared.Step.TheVariants.{Next, Clip, Pop, Draw, End, Refused}
+use Rattle.strip.specs.declared.Step.TheVariants.{Next, Clip, Pop, Draw, End}
 
 -- a strip's first byte is at the cursor, and nothing has been read of it
 abbrev pub start_at : ℕ → Cursor
@@ -23,50 +27,55 @@ unfoldable pub due_fits : ℕ → ℕ → Bool
 due_fits b due = pick (eqb b 6) (ltb 0 due) (eqb due 0)
 
 -- 9: "a box's inflated edge or transformed corner is not finite"
-abbrev pub on_box : ℕ → Option Rect → (Rect → Step) → Step
+abbrev pub on_box : ℕ → Option Rect → (Rect → Result Step Refusal) → Result Step Refusal
 on_box at (Some box) k = k box
-on_box at None k = Refused 9 at
+on_box at None k = refused UnboundedBox at
+
+-- 3 and 4 of operands are found at the command
+abbrev pub on_operands : ℕ → Result (Unit {0}) Fault → Result Step Refusal → Result Step Refusal
+on_operands at (Ok u) step = step
+on_operands at (Err f) step = refused f at
 
 -- CLIP. 6: "33rd open clip, 4,097th clip pushed"
-unfoldable pub clip_step : List ℕ → Cursor → Step
+unfoldable pub clip_step : List ℕ → Cursor → Result Step Refusal
 clip_step s st =
     pick (leb 32 st.depth)
-    (Refused 6 st.at)
+    (refused TooMany st.at)
     (pick (leb 4096 st.clips)
-    (Refused 6 st.at)
-    (Clip (record { at = st.at + 33; depth = st.depth + 1; clips = st.clips + 1; commands = st.commands; glyphs = st.glyphs; due = st.due; run = st.run; united = st.united }) (rect_at s (st.at + 1))))
+    (refused TooMany st.at)
+    (Ok (Clip (record { at = st.at + 33; depth = st.depth + 1; clips = st.clips + 1; commands = st.commands; glyphs = st.glyphs; due = st.due; run = st.run; united = st.united }) (rect_at s (st.at + 1)))))
 
 -- POP. 5: "POP with no clip open"
-unfoldable pub pop_step : Cursor → Step
+unfoldable pub pop_step : Cursor → Result Step Refusal
 pop_step st =
     pick (eqb st.depth 0)
-    (Refused 5 st.at)
-    (Pop (record { at = st.at + 1; depth = st.depth - 1; clips = st.clips; commands = st.commands; glyphs = st.glyphs; due = st.due; run = st.run; united = st.united }))
+    (refused NoOpenClip st.at)
+    (Ok (Pop (record { at = st.at + 1; depth = st.depth - 1; clips = st.clips; commands = st.commands; glyphs = st.glyphs; due = st.due; run = st.run; united = st.united })))
 
 -- a drawing command of this length has been read; this many glyphs of it are due
 abbrev pub drawn : Cursor → ℕ → ℕ → Cursor
 drawn st len due = record { at = st.at + len; depth = st.depth; clips = st.clips; commands = st.commands + 1; glyphs = st.glyphs; due = due; run = st.at; united = st.united }
 
 -- FILL, STROKE, SCENE, and a RUN without glyphs: the command is whole. 6: "4,097th drawing command"
-unfoldable pub draw_step : List ℕ → Cursor → ℕ → Step
+unfoldable pub draw_step : List ℕ → Cursor → ℕ → Result Step Refusal
 draw_step s st len =
     pick (leb 4096 st.commands)
-    (Refused 6 st.at)
-    (on_box st.at (try_with (command_at s st.at) st.united) (λ box. Draw (drawn st len 0) st.at box))
+    (refused TooMany st.at)
+    (on_box st.at (try_with (command_at s st.at) st.united) (λ box. Ok (Draw (drawn st len 0) st.at box)))
 
 -- RUN: "a run's united box is tested at its last GLYPH (the position), or at RUN when the count is 0"
-unfoldable pub run_step : List ℕ → Cursor → Step
+unfoldable pub run_step : List ℕ → Cursor → Result Step Refusal
 run_step s st =
     pick (eqb (u16_at s (st.at + 101)) 0)
     (draw_step s st 103)
-    (pick (leb 4096 st.commands) (Refused 6 st.at) (Next (drawn st 103 (u16_at s (st.at + 101)))))
+    (pick (leb 4096 st.commands) (refused TooMany st.at) (Ok (Next (drawn st 103 (u16_at s (st.at + 101))))))
 
 -- how many glyphs a command announces, and the step of a RUN that announces some
 abbrev pub announced : List ℕ → ℕ → ℕ → ℕ
 announced s at b = pick (eqb b 5) (u16_at s (at + 101)) 0
 
-abbrev pub announce : Cursor → ℕ → Step
-announce st due = pick (leb 4096 st.commands) (Refused 6 st.at) (Next (drawn st 103 due))
+abbrev pub announce : Cursor → ℕ → Result Step Refusal
+announce st due = pick (leb 4096 st.commands) (refused TooMany st.at) (Ok (Next (drawn st 103 due)))
 
 -- the boxes of a run's glyphs up to this one, united: the first glyph stands right behind its RUN
 abbrev pub unite : Cursor → Rect → Rect
@@ -76,24 +85,24 @@ abbrev pub glyph_read : Cursor → Rect → Cursor
 glyph_read st box = record { at = st.at + 45; depth = st.depth; clips = st.clips; commands = st.commands; glyphs = st.glyphs + 1; due = st.due - 1; run = st.run; united = unite st box }
 
 -- GLYPH: "GLYPH tests its own box", the last one the united box too. 6: "16,385th glyph of a frame"
-unfoldable pub last_step : List ℕ → Cursor → Rect → Step
+unfoldable pub last_step : List ℕ → Cursor → Rect → Result Step Refusal
 last_step s st box =
     pick (eqb st.due 1)
-    (on_box st.at (try_transform (transform_of (command_at s st.run)) (unite st box)) (λ whole. Draw (glyph_read st box) st.run whole))
-    (Next (glyph_read st box))
+    (on_box st.at (try_transform (transform_of (command_at s st.run)) (unite st box)) (λ whole. Ok (Draw (glyph_read st box) st.run whole)))
+    (Ok (Next (glyph_read st box)))
 
-unfoldable pub glyph_step : List ℕ → Cursor → Step
+unfoldable pub glyph_step : List ℕ → Cursor → Result Step Refusal
 glyph_step s st =
     pick (leb 16384 st.glyphs)
-    (Refused 6 st.at)
+    (refused TooMany st.at)
     (on_box st.at (try_transform (transform_of (command_at s st.run)) (rect_at s (st.at + 13))) (λ own. last_step s st (rect_at s (st.at + 13))))
 
 -- END
-abbrev pub end_step : Cursor → Step
-end_step st = End (record { at = st.at + 1; depth = st.depth; clips = st.clips; commands = st.commands; glyphs = st.glyphs; due = st.due; run = st.run; united = st.united })
+abbrev pub end_step : Cursor → Result Step Refusal
+end_step st = Ok (End (record { at = st.at + 1; depth = st.depth; clips = st.clips; commands = st.commands; glyphs = st.glyphs; due = st.due; run = st.run; united = st.united }))
 
 -- "effect", by the command's byte
-unfoldable pub effect_of : List ℕ → Cursor → ℕ → Step
+unfoldable pub effect_of : List ℕ → Cursor → ℕ → Result Step Refusal
 effect_of s st b =
     pick (eqb b 0)
     (end_step st)
@@ -106,16 +115,14 @@ abbrev pub Draws : ℕ → Type 0
 Draws b = (b ≡ 0 → ⊥) × (b ≡ 1 → ⊥) × (b ≡ 2 → ⊥) × (b ≡ 6 → ⊥)
 
 -- the checks in the table's order: a byte, a byte of the table, glyphs due, length, operands, effect
-unfoldable pub step_at : List ℕ → Cursor → Step
+unfoldable pub step_at : List ℕ → Cursor → Result Step Refusal
 step_at s st =
     pick (ltb st.at (length s))
     (pick (leb (get_or s st.at 0) 7)
     (pick (due_fits (get_or s st.at 0) st.due)
     (pick (ltb (length s - st.at) (length_of (get_or s st.at 0)))
-    (Refused 2 st.at)
-    (pick (eqb (operands_at s st.at (get_or s st.at 0)) 0)
-    (effect_of s st (get_or s st.at 0))
-    (Refused (operands_at s st.at (get_or s st.at 0)) st.at)))
-    (Refused 7 st.at))
-    (Refused 3 st.at))
-    (Refused 2 (length s))
+    (refused CutOff st.at)
+    (on_operands st.at (operands_at s st.at (get_or s st.at 0)) (effect_of s st (get_or s st.at 0))))
+    (refused GlyphOrder st.at))
+    (refused UnknownCode st.at))
+    (refused CutOff (length s))

@@ -7,6 +7,7 @@ ghost use Rattle.strip_format.specs.Format.{length_of, command_at};
 ghost use Rattle.strip_format.specs.Finite.{FourFinite};
 ghost use Rattle.strip.specs.Steps as Steps;
 ghost use Rattle.strip.specs.Reading as Reading;
+ghost use Rattle.strip.specs.Effects as Effects;
 ghost use Rattle.strip.specs.Effects.{settled, draw_effect, last_effect, Stands, DrawsAt, affine_offset, rect_offset, OwnBounds, GlyphDue, GoesOn, NearGoesOn, NearRun, Passes};
 
 use affine::Affine;
@@ -78,16 +79,16 @@ impl Cursor {
     {
         let at = self.at;
         if 32 <= self.depth {
-            return Step::Refused(6, at);
+            return Err(Fault::TooMany.at(at));
         }
         if 4096 <= self.clips {
-            return Step::Refused(6, at);
+            return Err(Fault::TooMany.at(at));
         }
         let bounds = strip_format::rect_finite(s, at + 1);
         self.at = at + 33;
         self.depth = self.depth + 1;
         self.clips = self.clips + 1;
-        Step::Clip(self, bounds)
+        Ok(Step::Clip(self, bounds))
     }
 
     fn pop(mut self) -> Result<Step, Refusal>
@@ -96,11 +97,11 @@ impl Cursor {
     {
         let at = self.at;
         if self.depth == 0 {
-            return Step::Refused(5, at);
+            return Err(Fault::NoOpenClip.at(at));
         }
         self.at = at + 1;
         self.depth = self.depth - 1;
-        Step::Pop(self)
+        Ok(Step::Pop(self))
     }
 
     fn draw(mut self, transform: Affine, bounds: Rect, len: usize) -> Result<Effect, Refusal>
@@ -109,13 +110,13 @@ impl Cursor {
     {
         let at = self.at;
         if 4096 <= self.commands {
-            return Effect::Done(Step::Refused(6, at));
+            return Err(Fault::TooMany.at(at));
         }
         self.at = at + len;
         self.commands = self.commands + 1;
         self.due = 0;
         self.run = at;
-        Effect::Drawn(self, at, at, transform, bounds)
+        Ok(Effect::Drawn(self, at, at, transform, bounds))
     }
 
     // A RUN that announces glyphs.
@@ -125,13 +126,13 @@ impl Cursor {
     {
         let at = self.at;
         if 4096 <= self.commands {
-            return Step::Refused(6, at);
+            return Err(Fault::TooMany.at(at));
         }
         self.at = at + 103;
         self.commands = self.commands + 1;
         self.due = due;
         self.run = at;
-        Step::Next(self)
+        Ok(Step::Next(self))
     }
 
     // Any drawing command. One that announces no glyph is drawn, a RUN too: in one place, so that it is compiled into its caller.
@@ -146,7 +147,7 @@ impl Cursor {
             let bounds = drawn_bounds(s, at, b);
             return self.draw(transform, bounds, strip_format::length_of(b));
         }
-        Effect::Done(self.run(due))
+        Ok(Effect::Done(self.run(due)?))
     }
 
     // The boxes of the run's glyphs up to this one, united. The first glyph stands right behind its RUN.
@@ -202,14 +203,14 @@ impl Cursor {
         let at = self.at;
         let run = self.run;
         if 16384 <= self.glyphs {
-            return Effect::Done(Step::Refused(6, at));
+            return Err(Fault::TooMany.at(at));
         }
         let bounds = strip_format::rect_finite(s, at + 13);
         let transform = command_bounds::transform_at(s, run);
         if transform.finite_corners(bounds) {
-            self.last(transform, bounds)
+            Ok(self.last(transform, bounds))
         } else {
-            Effect::Done(Step::Refused(9, at))
+            Err(Fault::UnboundedBox.at(at))
         }
     }
 }
@@ -287,10 +288,10 @@ fn effect_of(s: &[u8], st: Cursor, b: u8) -> Result<Effect, Refusal>
         0 => {
             let mut end = st;
             end.at = end.at + 1;
-            Effect::Done(Step::End(end))
+            Ok(Effect::Done(Step::End(end)))
         }
-        1 => Effect::Done(st.clip(s)),
-        2 => Effect::Done(st.pop()),
+        1 => Ok(Effect::Done(st.clip(s)?)),
+        2 => Ok(Effect::Done(st.pop()?)),
         3 => st.draw_or_run(s, 3),
         4 => st.draw_or_run(s, 4),
         6 => st.glyph(s),
@@ -300,45 +301,41 @@ fn effect_of(s: &[u8], st: Cursor, b: u8) -> Result<Effect, Refusal>
 }
 
 // The step, once the box of what is drawn is transformed.
-fn settle(effect: Effect) -> Step
-    ensures { result ≡ settled effect }
+fn settle(effect: Effect) -> Result<Step, Refusal>
+    ensures { result ≡ Effects.settle effect }
 {
     match effect {
         Effect::Drawn(next, offset, at, transform, bounds) => {
             match transform.try_transform(bounds) {
-                Some(transformed) => Step::Draw(next, offset, transformed),
-                None => Step::Refused(9, at),
+                Some(transformed) => Ok(Step::Draw(next, offset, transformed)),
+                None => Err(Fault::UnboundedBox.at(at)),
             }
         }
-        Effect::Done(step) => step,
+        Effect::Done(step) => Ok(step),
     }
 }
 
 // One command: turned away, or read. Any cursor will do; one past the end is a refusal too.
-pub fn take_step(s: &[u8], st: Cursor) -> Step
+pub fn take_step(s: &[u8], st: Cursor) -> Result<Step, Refusal>
     ensures { result ≡ Steps.step_at s.now st }
 {
     let at = st.at;
-    let due = st.due;
     if s.len() <= at {
-        return Step::Refused(2, s.len());
+        return Err(Fault::CutOff.at(s.len()));
     }
     let b = s[at];
     if 7 < b {
-        return Step::Refused(3, at);
+        return Err(Fault::UnknownCode.at(at));
     }
-    if due_fits(b, due) {
-        if s.len() - at < strip_format::length_of(b) {
-            return Step::Refused(2, at);
-        }
-        let number = operand_checks::operands(s, at, b);
-        if number == 0 {
-            settle(effect_of(s, st, b))
-        } else {
-            Step::Refused(number, at)
-        }
-    } else {
-        Step::Refused(7, at)
+    if !due_fits(b, st.due) {
+        return Err(Fault::GlyphOrder.at(at));
+    }
+    if s.len() - at < strip_format::length_of(b) {
+        return Err(Fault::CutOff.at(at));
+    }
+    match operand_checks::operands(s, at, b) {
+        Ok(()) => settle(effect_of(s, st, b)?),
+        Err(fault) => Err(fault.at(at)),
     }
 }
 
@@ -444,13 +441,13 @@ pub fn pass_glyphs(s: &[u8], st: Cursor) -> Cursor
     next
 }
 
-// Reads a strip from an offset to its END.
-pub fn read_strip(s: &[u8], at: usize) -> Answer
+// Reads a strip from an offset to its END, and answers where it ended.
+pub fn read_strip(s: &[u8], at: usize) -> Result<Cursor, Refusal>
     ensures { result ≡ Reading.read_strip s.now at }
 {
     let mut st = Cursor::start(at);
     loop {
-        match take_step(s, st) {
+        match take_step(s, st)? {
             Step::Next(t) => {
                 st = t;
             }
@@ -464,10 +461,7 @@ pub fn read_strip(s: &[u8], at: usize) -> Answer
                 st = t;
             }
             Step::End(t) => {
-                return Answer::Read(t);
-            }
-            Step::Refused(number, position) => {
-                return Answer::Refused(number, position);
+                return Ok(t);
             }
         }
     }

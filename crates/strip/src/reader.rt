@@ -2,7 +2,8 @@
 ghost use Rattle.std.specs.Prelude.{◌≡◌};
 ghost use Rattle.strip.specs.Reading as Reading;
 
-use crate::{Answer, Cursor};
+use crate::Cursor;
+use refusals::Refusal;
 
 #[derive(Clone, Copy)]
 pub struct Reader<'a> {
@@ -26,7 +27,7 @@ impl<'a> Reader<'a> {
     }
 
     // The strip that begins at the offset.
-    pub fn read(self) -> Answer
+    pub fn read(self) -> Result<Cursor, Refusal>
         ensures { result ≡ Reading.read_strip self.entry.src.now self.entry.at }
     {
         crate::read_strip(self.src, self.at)
@@ -34,7 +35,7 @@ impl<'a> Reader<'a> {
 }
 
 // The strip behind one that was read.
-pub fn read_behind(s: &[u8], old: Cursor) -> Answer
+pub fn read_behind(s: &[u8], old: Cursor) -> Result<Cursor, Refusal>
     ensures { result ≡ Reading.read_strip s.now old.at }
 {
     Reader::new(s).moved(old.at).read()

@@ -5,6 +5,8 @@ use Prim.Native.Nat.{ℕ, suc, ◌+◌, ◌-◌, ◌≤◌}
 use native.Mathlib.Omega.{arith}
 use lib.ListN.{length, get_or}
 use borrow.Author.Tests.{le-leb}
+use Rattle.refusals.specs.declared.Refusal.{Refusal}
+use Rattle.refusals.specs.Table.{refused}
 use Rattle.lists.specs.Members.{All}
 use Rattle.lists.proofs.Members.{all_map, all_append, all_take}
 use Rattle.geometry.specs.declared.Rect.{Rect}
@@ -20,26 +22,26 @@ use Rattle.strip_format.specs.Format.{rect_at, run_at, command_at, glyphs_from}
 use Rattle.strip_format.proofs.Lengths.{length_run}
 use Rattle.strip.specs.declared.Cursor.{Cursor}
 use Rattle.strip.specs.declared.Step.{Step}
-use Rattle.strip.specs.declared.Step.TheVariants.{Next, Clip, Pop, Draw, End, Refused}
+use Rattle.strip.specs.declared.Step.TheVariants.{Next, Clip, Pop, Draw, End}
 use Rattle.strip.specs.Steps.{start_at, unite, step_at}
 use Rattle.strip.specs.Reading.{command_of, Listing, noted, commands_of}
 use Rattle.strip_laws.proofs.Steps.{Alone, by_cases, list_keeps}
 use Rattle.strip_laws.proofs.Runs.{Shown, Behind, none_shown, unite_is, next_shown, InRun, step_in_run}
 use Rattle.strip_laws.proofs.Numbers.{one_rect, Opens, step_opens}
-use Rattle.std.specs.Prelude.{Some}
+use Rattle.std.specs.Prelude.{Some, Result, Ok, Err}
 
 -- the glyphs of the command at an offset
 abbrev pub glyphs_of : List ℕ → ℕ → List Glyph
 glyphs_of s at = glyphs_from s (at + 103) (glyph_count (command_at s at))
 
 -- what is drawn is the transformed box of the command with its glyphs
-abbrev pub Boxed : List ℕ → Step → Type 0
-Boxed s (Next t) = Unit {0}
-Boxed s (Clip t box) = Unit {0}
-Boxed s (Pop t) = Unit {0}
-Boxed s (Draw t at box) = try_transform (transform_of (command_at s at)) (local_bounds (command_at s at) (glyphs_of s at)) ≡ Some box
-Boxed s (End t) = Unit {0}
-Boxed s (Refused n p) = Unit {0}
+abbrev pub Boxed : List ℕ → Result Step Refusal → Type 0
+Boxed s (Ok (Next t)) = Unit {0}
+Boxed s (Ok (Clip t box)) = Unit {0}
+Boxed s (Ok (Pop t)) = Unit {0}
+Boxed s (Ok (Draw t at box)) = try_transform (transform_of (command_at s at)) (local_bounds (command_at s at) (glyphs_of s at)) ≡ Some box
+Boxed s (Ok (End t)) = Unit {0}
+Boxed s (Err why) = Unit {0}
 
 no_glyphs : (s : List ℕ) (at : ℕ) → glyphs_from s at 0 ≡ []
 unfolding glyphs_from
@@ -81,13 +83,13 @@ step_boxed s st h = by_cases s st (Boxed s) record {
 }
 
 -- every glyph of what is drawn has finite corners
-abbrev Glyphed : List ℕ → Step → Type 0
-Glyphed s (Next t) = Unit {0}
-Glyphed s (Clip t box) = Unit {0}
-Glyphed s (Pop t) = Unit {0}
-Glyphed s (Draw t at box) = All (Shown (command_at s at)) (glyphs_of s at)
-Glyphed s (End t) = Unit {0}
-Glyphed s (Refused n p) = Unit {0}
+abbrev Glyphed : List ℕ → Result Step Refusal → Type 0
+Glyphed s (Ok (Next t)) = Unit {0}
+Glyphed s (Ok (Clip t box)) = Unit {0}
+Glyphed s (Ok (Pop t)) = Unit {0}
+Glyphed s (Ok (Draw t at box)) = All (Shown (command_at s at)) (glyphs_of s at)
+Glyphed s (Ok (End t)) = Unit {0}
+Glyphed s (Err why) = Unit {0}
 
 step_glyphed : (s : List ℕ) (st : Cursor) → InRun s st → Glyphed s (step_at s st)
 step_glyphed s st h = by_cases s st (Glyphed s) record {
@@ -122,15 +124,15 @@ one_fine c h = (h, tt)
 glyphs_fine : (c : Command) → All (Edges Number) c.clips → All (Shown c.draw) c.glyphs → All (λ g. Edges Number (glyph_bounds c g) × Upright (glyph_bounds c g)) c.glyphs
 glyphs_fine c k h = all_map (Shown c.draw) (λ g. Edges Number (glyph_bounds c g) × Upright (glyph_bounds c g)) (λ g e. (glyph_numbers c k g e.0 e.1, glyph_upright c k g e.0 e.1)) c.glyphs h
 
-noted_fine : (s : List ℕ) (l : Listing) (x : Step) → Opens x → Boxed s x → Glyphed s x → FineList l → FineList (noted s l x)
-noted_fine s l (Next t) o b y h = h
-noted_fine s l (Clip t box) o b y h = record { clips = all_append (Edges Number) l.clips (box ∷ []) h.clips (one_rect box o); commands = h.commands }
-noted_fine s l (Pop t) o b y h = record { clips = all_take (Edges Number) (length l.clips - 1) l.clips h.clips; commands = h.commands }
-noted_fine s l (Draw t at box) o b y h =
+noted_fine : (s : List ℕ) (l : Listing) (x : Result Step Refusal) → Opens x → Boxed s x → Glyphed s x → FineList l → FineList (noted s l x)
+noted_fine s l (Ok (Next t)) o b y h = h
+noted_fine s l (Ok (Clip t box)) o b y h = record { clips = all_append (Edges Number) l.clips (box ∷ []) h.clips (one_rect box o); commands = h.commands }
+noted_fine s l (Ok (Pop t)) o b y h = record { clips = all_take (Edges Number) (length l.clips - 1) l.clips h.clips; commands = h.commands }
+noted_fine s l (Ok (Draw t at box)) o b y h =
     let c = command_of s at l.clips in
     record { clips = h.clips; commands = all_append Fine l.commands (c ∷ []) h.commands (one_fine c record { numbers = bounds_numbers c h.clips box b; upright = bounds_upright c h.clips box b; glyphs = glyphs_fine c h.clips y }) }
-noted_fine s l (End t) o b y h = h
-noted_fine s l (Refused n p) o b y h = h
+noted_fine s l (Ok (End t)) o b y h = h
+noted_fine s l (Err why) o b y h = h
 
 no_fine : FineList (record { clips = []; commands = [] })
 unfolding All

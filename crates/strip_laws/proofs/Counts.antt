@@ -4,11 +4,14 @@ use mathlib.Core.List.{List, [], ◌∷◌, ◌++◌}
 use Prim.Native.Nat.{ℕ, zero, suc, ◌+◌, ◌<◌}
 use native.Mathlib.Omega.{arith}
 use lib.ListN.{length, length-append}
+use Rattle.std.specs.Prelude.{Result, Ok, Err}
+use Rattle.refusals.specs.declared.Refusal.{Refusal}
+use Rattle.refusals.specs.Table.{refused}
 use Rattle.commands.specs.Bounds.{Command, glyph_count}
 use Rattle.strip_format.specs.Format.{command_at}
 use Rattle.strip.specs.declared.Cursor.{Cursor}
 use Rattle.strip.specs.declared.Step.{Step}
-use Rattle.strip.specs.declared.Step.TheVariants.{Next, Clip, Pop, Draw, End, Refused}
+use Rattle.strip.specs.declared.Step.TheVariants.{Next, Clip, Pop, Draw, End}
 use Rattle.strip.specs.Steps.{start_at, step_at}
 use Rattle.strip.specs.Reading.{on_step, read_from, read_strip, command_of, Listing, noted, on_next, list_from, commands_of}
 use Rattle.strip_laws.specs.Limits.{WhereRead}
@@ -72,15 +75,15 @@ step_counts s l st h = by_cases s st (λ x. Kept (Counting s (noted s l x).comma
 
 -- reading and listing take the same steps
 module _ (s : List ℕ) where
-  on_counts : (n : ℕ) (l : Listing) (x : Step) → Kept (Counting s (noted s l x).commands) (Counted l.commands) x
+  on_counts : (n : ℕ) (l : Listing) (x : Result Step Refusal) → Kept (Counting s (noted s l x).commands) (Counted l.commands) x
       → ((t : Cursor) → Counting s (noted s l x).commands t → WhereRead (Counted (list_from n s t (noted s l x)).commands) (read_from n s t))
       → WhereRead (Counted (on_next x l (λ t. list_from n s t (noted s l x))).commands) (on_step x (λ t. read_from n s t))
-  on_counts n l (Next t) h f = f t h
-  on_counts n l (Clip t box) h f = f t h
-  on_counts n l (Pop t) h f = f t h
-  on_counts n l (Draw t at box) h f = f t h
-  on_counts n l (End t) h f = h
-  on_counts n l (Refused m p) h f = tt
+  on_counts n l (Ok (Next t)) h f = f t h
+  on_counts n l (Ok (Clip t box)) h f = f t h
+  on_counts n l (Ok (Pop t)) h f = f t h
+  on_counts n l (Ok (Draw t at box)) h f = f t h
+  on_counts n l (Ok (End t)) h f = h
+  on_counts n l (Err why) h f = tt
 
   from_counts : (n : ℕ) (l : Listing) (st : Cursor) → Counting s l.commands st → WhereRead (Counted (list_from n s st l).commands) (read_from n s st)
   unfolding read_from list_from

@@ -6,15 +6,15 @@ use mathlib.Core.List.{List, [], ◌∷◌, ◌++◌}
 use Prim.Native.Nat.{ℕ, zero, suc, ◌+◌, ◌-◌, ◌*◌, ◌≤◌, ◌<◌}
 use native.Mathlib.Omega.{arith}
 use lib.ListN.{length, get_or, length-append, get_or-append}
+use Rattle.std.specs.Prelude.{Result, Ok, Err}
+use Rattle.refusals.specs.declared.Refusal.{Refusal}
 use Rattle.geometry.specs.declared.Rect.{Rect}
 use Rattle.commands.specs.declared.DrawCommand.{DrawCommand}
 use Rattle.commands.specs.Bounds.{glyph_count}
 use Rattle.strip_format.specs.Format.{command_at, glyphs_from}
 use Rattle.strip.specs.declared.Cursor.{Cursor}
 use Rattle.strip.specs.declared.Step.{Step}
-use Rattle.strip.specs.declared.Step.TheVariants.{Next, Clip, Pop, Draw, End, Refused}
-use Rattle.strip.specs.declared.Answer.{Answer}
-use Rattle.strip.specs.declared.Answer.TheVariants.{Read, Refused as TurnedAway}
+use Rattle.strip.specs.declared.Step.TheVariants.{Next, Clip, Pop, Draw, End}
 use Rattle.strip.specs.Steps.{start_at, step_at}
 use Rattle.strip.specs.Reading.{on_step, read_from, read_strip, command_of, Listing, noted, on_next, list_from, commands_of}
 use Rattle.strip.proofs.Moves.{Moved, step_moves}
@@ -26,27 +26,27 @@ use Rattle.strip_laws.proofs.Alike.{command_same}
 use Rattle.strip_laws.proofs.Shifts.{Shifted, StepAlike, nexts, clips, pops, draws, ends, turns, Goes, step_alike}
 
 -- the same answer, `by` bytes further on
-abbrev pub AnswerAlike : ℕ → Answer → Answer → Type 0
-AnswerAlike by (Read c) (Read d) = Shifted by c d
-AnswerAlike by (Read c) (TurnedAway n q) = ⊥
-AnswerAlike by (TurnedAway m p) (Read d) = ⊥
-AnswerAlike by (TurnedAway m p) (TurnedAway n q) = (n ≡ m) × (q ≡ by + p)
+abbrev pub AnswerAlike : ℕ → Result Cursor Refusal → Result Cursor Refusal → Type 0
+AnswerAlike by (Ok c) (Ok d) = Shifted by c d
+AnswerAlike by (Ok c) (Err why) = ⊥
+AnswerAlike by (Err why) (Ok d) = ⊥
+AnswerAlike by (Err why) (Err also) = (also.fault ≡ why.fault) × (also.position ≡ by + why.position)
 
 -- an answer that is a refusal
-abbrev Away : Answer → Type 0
-Away (Read c) = ⊥
-Away (TurnedAway n p) = Unit {0}
+abbrev Away : Result Cursor Refusal → Type 0
+Away (Ok c) = ⊥
+Away (Err why) = Unit {0}
 
-turned : (n p : ℕ) (c : Cursor) → TurnedAway n p ≡ Read c → ⊥
-turned n p c e = subst Away e tt
+turned : (why : Refusal) (c : Cursor) → Err why ≡ Ok c → ⊥
+turned why c e = subst Away e tt
 
-goes : (x : Step) (k : Cursor → Answer) (c : Cursor) → on_step x k ≡ Read c → Goes x
-goes (Next t) k c e = tt
-goes (Clip t box) k c e = tt
-goes (Pop t) k c e = tt
-goes (Draw t at box) k c e = tt
-goes (End t) k c e = tt
-goes (Refused n p) k c e = turned n p c e
+goes : (x : Result Step Refusal) (k : Cursor → Result Cursor Refusal) (c : Cursor) → on_step x k ≡ Ok c → Goes x
+goes (Ok (Next t)) k c e = tt
+goes (Ok (Clip t box)) k c e = tt
+goes (Ok (Pop t)) k c e = tt
+goes (Ok (Draw t at box)) k c e = tt
+goes (Ok (End t)) k c e = tt
+goes (Err why) k c e = turned why c e
 
 module _ (s r : List ℕ) (by : ℕ) (same : (i j : ℕ) → j ≡ by + i → i < length s → get_or s i 0 ≡ get_or r j 0) (more : by + length s ≤ length r) where
   -- ---- the commands
@@ -65,7 +65,7 @@ module _ (s r : List ℕ) (by : ℕ) (same : (i j : ℕ) → j ≡ by + i → i 
       let g : glyphs_from s (at + 103) (glyph_count (command_at s at)) ≡ glyphs_from r (to + 103) (glyph_count (command_at r to)) = glyphs_same (glyph_count (command_at s at)) (at + 103) (to + 103) (omega arith) w.glyphs ∙ ap (λ (x : DrawCommand). glyphs_from r (to + 103) (glyph_count x)) d in
       λ i. record { draw = d i; glyphs = g i; clips = under }
 
-  noted_same : (l : Listing) {x y : Step} → StepAlike by x y → Draws s x → noted r l y ≡ noted s l x
+  noted_same : (l : Listing) {x y : Result Step Refusal} → StepAlike by x y → Draws s x → noted r l y ≡ noted s l x
   noted_same l (nexts a) w = refl
   noted_same l (clips a e) w = ap (λ (b : Rect). record { clips = l.clips ++ (b ∷ []); commands = l.commands }) (sym e)
   noted_same l (pops a) w = refl
@@ -74,8 +74,8 @@ module _ (s r : List ℕ) (by : ℕ) (same : (i j : ℕ) → j ≡ by + i → i 
   noted_same l (turns e) w = refl
 
   -- ---- reading: s is read, or both inputs end alike
-  abbrev Sure : Answer → Type 0
-  Sure x = ((c : Cursor) × (x ≡ Read c)) ⊎ (length r ≡ by + length s)
+  abbrev Sure : Result Cursor Refusal → Type 0
+  Sure x = ((c : Cursor) × (x ≡ Ok c)) ⊎ (length r ≡ by + length s)
 
   record Both (k m : ℕ) (st to : Cursor) (l : Listing) : Type 0 where
     answers : AnswerAlike by (read_from k s st) (read_from m r to)
@@ -83,7 +83,7 @@ module _ (s r : List ℕ) (by : ℕ) (same : (i j : ℕ) → j ≡ by + i → i 
 
   -- a step more
   module _ (k m : ℕ) (l : Listing) where
-    record After (x y : Step) (w : Listing) : Type 0 where
+    record After (x y : Result Step Refusal) (w : Listing) : Type 0 where
       after_answers : AnswerAlike by (on_step x (λ t. read_from k s t)) (on_step y (λ t. read_from m r t))
       after_lists : on_next y l (λ t. list_from m r t w) ≡ on_next x l (λ t. list_from k s t w)
 
@@ -91,7 +91,7 @@ module _ (s r : List ℕ) (by : ℕ) (same : (i j : ℕ) → j ≡ by + i → i 
       on : (t u : Cursor) → Shifted by t u → InRun s t → (st.at < t.at) × (t.at ≤ length s) → Sure (read_from k s t) → Both k m t u w
       on t u a i v h = f t u a i (omega (arith, v.0, v.1)) (omega (arith, a.at_is, v.0, v.1)) h
 
-      after : {x y : Step} → StepAlike by x y → Kept (InRun s) (λ t. Unit {0}) x → Moved (length s) st x → Sure (on_step x (λ t. read_from k s t)) → After x y w
+      after : {x y : Result Step Refusal} → StepAlike by x y → Kept (InRun s) (λ t. Unit {0}) x → Moved (length s) st x → Sure (on_step x (λ t. read_from k s t)) → After x y w
       after (nexts {c} {d} a) i v h = let b = on c d a i v h in record { after_answers = b.answers; after_lists = b.lists }
       after (clips {c} {d} a e) i v h = let b = on c d a i v h in record { after_answers = b.answers; after_lists = b.lists }
       after (pops {c} {d} a) i v h = let b = on c d a i v h in record { after_answers = b.answers; after_lists = b.lists }
@@ -123,19 +123,19 @@ module _ (s r : List ℕ) (by : ℕ) (same : (i j : ℕ) → j ≡ by + i → i 
   lists_alike at to e h = ap (λ (l : Listing). l.commands) (whole at to e h).lists
 
 -- the cursor of an answer that is alike one that was read
-read_of : (by : ℕ) (c : Cursor) (x y : Answer) → x ≡ Read c → AnswerAlike by x y → (d : Cursor) × (y ≡ Read d) × Shifted by c d
-read_of by c x (Read d) e a = (d, refl, subst (λ (z : Answer). AnswerAlike by z (Read d)) e a)
-read_of by c x (TurnedAway n q) e a = absurd (subst (λ (z : Answer). AnswerAlike by z (TurnedAway n q)) e a)
+read_of : (by : ℕ) (c : Cursor) (x y : Result Cursor Refusal) → x ≡ Ok c → AnswerAlike by x y → (d : Cursor) × (y ≡ Ok d) × Shifted by c d
+read_of by c x (Ok d) e a = (d, refl, subst (λ (z : Result Cursor Refusal). AnswerAlike by z (Ok d)) e a)
+read_of by c x (Err why) e a = absurd (subst (λ (z : Result Cursor Refusal). AnswerAlike by z (Err why)) e a)
 
 -- ---- P1: "a strip accepted alone" reads the same in front of other bytes: it ends at the same place with the same counts and commands
-module _ (s t : List ℕ) (at : ℕ) (c : Cursor) (read : read_strip s at ≡ Read c) where
+module _ (s t : List ℕ) (at : ℕ) (c : Cursor) (read : read_strip s at ≡ Ok c) where
   in_front : (i j : ℕ) → j ≡ 0 + i → i < length s → get_or s i 0 ≡ get_or (s ++ t) j 0
   in_front i j e h = let k : i ≡ j = omega arith in sym (get_or-append s t 0 i h) ∙ ap (λ (x : ℕ). get_or (s ++ t) x 0) k
 
   longer : 0 + length s ≤ length (s ++ t)
   longer = omega (arith, length-append s t)
 
-  pub front_read : (d : Cursor) × (read_strip (s ++ t) at ≡ Read d) × Shifted 0 c d
+  pub front_read : (d : Cursor) × (read_strip (s ++ t) at ≡ Ok d) × Shifted 0 c d
   front_read = read_of 0 c (read_strip s at) (read_strip (s ++ t) at) read (answers_alike s (s ++ t) 0 in_front longer at at (omega arith) (inl (c, read)))
 
   pub front_list : commands_of (s ++ t) at ≡ commands_of s at

@@ -3,9 +3,12 @@ use mathlib.Core.List.{List}
 use Prim.Native.Nat.{ℕ, suc, ◌≤◌}
 use native.Mathlib.Omega.{arith}
 use lib.ListN.{length}
+use Rattle.std.specs.Prelude.{Result, Ok, Err}
+use Rattle.refusals.specs.declared.Refusal.{Refusal}
+use Rattle.refusals.specs.Table.{refused}
 use Rattle.strip.specs.declared.Cursor.{Cursor}
 use Rattle.strip.specs.declared.Step.{Step}
-use Rattle.strip.specs.declared.Step.TheVariants.{Next, Clip, Pop, Draw, End, Refused}
+use Rattle.strip.specs.declared.Step.TheVariants.{Next, Clip, Pop, Draw, End}
 use Rattle.strip.specs.Steps.{start_at, step_at}
 use Rattle.strip.specs.Reading.{read_strip}
 use Rattle.strip.proofs.Moves.{Moved, step_moves}
@@ -37,13 +40,13 @@ module _ (s : List ℕ) (at : ℕ) where
   abbrev From : Cursor → Type 0
   From t = at ≤ t.at
 
-  onward : (st : Cursor) → From st → (x : Step) → Moved (length s) st x → Kept From (Passed at (length s)) x
-  onward st h (Next t) m = omega (arith, m.0)
-  onward st h (Clip t box) m = omega (arith, m.0)
-  onward st h (Pop t) m = omega (arith, m.0)
-  onward st h (Draw t from box) m = omega (arith, m.0)
-  onward st h (End t) m = record { some = omega (arith, m.0); inside = m.1 }
-  onward st h (Refused n p) m = tt
+  onward : (st : Cursor) → From st → (x : Result Step Refusal) → Moved (length s) st x → Kept From (Passed at (length s)) x
+  onward st h (Ok (Next t)) m = omega (arith, m.0)
+  onward st h (Ok (Clip t box)) m = omega (arith, m.0)
+  onward st h (Ok (Pop t)) m = omega (arith, m.0)
+  onward st h (Ok (Draw t from box)) m = omega (arith, m.0)
+  onward st h (Ok (End t)) m = record { some = omega (arith, m.0); inside = m.1 }
+  onward st h (Err why) m = tt
 
   -- some bytes are passed, and none that is not there
   pub strip_passed : WhereRead (Passed at (length s)) (read_strip s at)

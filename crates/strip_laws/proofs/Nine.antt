@@ -8,6 +8,8 @@ use native.Mathlib.Omega.{arith}
 use lib.Dec.{leb, ltb, eqb}
 use lib.ListN.{length, get_or}
 use borrow.Author.Tests.{lt-leb, leb-true, leb-false, ltb-true, ltb-false, eq-eqb, eqb-true, eqb-false}
+use Rattle.refusals.specs.declared.Refusal.{Refusal}
+use Rattle.refusals.specs.Table.{refused}
 use Rattle.lists.proofs.Picks.{pick_true, pick_false, pick_cases}
 use Rattle.little_endian.specs.Words.{u16_at}
 use Rattle.geometry.specs.declared.Rect.{Rect}
@@ -19,32 +21,32 @@ use Rattle.commands.proofs.Runs.{local_is}
 use Rattle.strip_format.specs.Format.{length_of, rect_at, command_at}
 use Rattle.strip_format.proofs.Lengths.{length_run}
 use Rattle.operand_checks.specs.Operands.{operands_at}
-use Rattle.operand_checks.proofs.Numbers.{operands_most}
+use Rattle.operand_checks.proofs.Numbers.{UpTo4, operands_most}
 use Rattle.strip.specs.declared.Cursor.{Cursor}
 use Rattle.strip.specs.declared.Step.{Step}
-use Rattle.strip.specs.declared.Step.TheVariants.{Next, Clip, Pop, Draw, End, Refused}
+use Rattle.strip.specs.declared.Step.TheVariants.{Next, Clip, Pop, Draw, End}
 use Rattle.strip.specs.Steps.{due_fits, on_box, clip_step, pop_step, drawn, draw_step, run_step, announced, unite, glyph_read, last_step, glyph_step, effect_of, Draws, step_at}
-use Rattle.strip.proofs.Effects.{effect_glyph, draws_whole, step_effect}
+use Rattle.strip.proofs.Effects.{effect_glyph, draws_whole, step_effect, operands_cases}
 use Rattle.strip_laws.specs.Nine.{byte_at, NoneBefore, DrawnUnbounded, GlyphUnbounded, Nine}
 use Rattle.strip_laws.proofs.Steps.{run_count, no_count}
-use Rattle.std.specs.Prelude.{Option, Some, None}
+use Rattle.std.specs.Prelude.{Option, Some, None, Result, Ok, Err}
 
 -- the number and the position that a step refuses with; 0 where it refuses nothing
-abbrev number_in : Step → ℕ
-number_in (Next t) = 0
-number_in (Clip t box) = 0
-number_in (Pop t) = 0
-number_in (Draw t at box) = 0
-number_in (End t) = 0
-number_in (Refused n p) = n
+abbrev number_in : Result Step Refusal → ℕ
+number_in (Ok (Next t)) = 0
+number_in (Ok (Clip t box)) = 0
+number_in (Ok (Pop t)) = 0
+number_in (Ok (Draw t at box)) = 0
+number_in (Ok (End t)) = 0
+number_in (Err why) = number why.fault
 
-abbrev place_in : Step → ℕ
-place_in (Next t) = 0
-place_in (Clip t box) = 0
-place_in (Pop t) = 0
-place_in (Draw t at box) = 0
-place_in (End t) = 0
-place_in (Refused n p) = p
+abbrev place_in : Result Step Refusal → ℕ
+place_in (Ok (Next t)) = 0
+place_in (Ok (Clip t box)) = 0
+place_in (Ok (Pop t)) = 0
+place_in (Ok (Draw t at box)) = 0
+place_in (Ok (End t)) = 0
+place_in (Err why) = why.position
 
 -- a command that stands whole announces as many glyphs as it says it has
 count_is : (s : List ℕ) (at : ℕ) → at + length_of (get_or s at 0) ≤ length s → announced s at (get_or s at 0) ≡ glyph_count (command_at s at)
@@ -59,19 +61,19 @@ own_is s at u z = local_is (command_at s at) u u [] z (λ h. absurd (omega arith
 
 module _ (s : List ℕ) (st : Cursor) where
   -- ---- what is given 9 is such a case
-  abbrev Told : Step → Type 0
+  abbrev Told : Result Step Refusal → Type 0
   Told x = number_in x ≡ 9 → (place_in x ≡ st.at) × (NoneBefore s st × Nine s st)
 
-  on_box_lem : (r : Option Rect) (k : Rect → Step) → (r ≡ None → NoneBefore s st × Nine s st) → ((box : Rect) → Told (k box)) → Told (on_box st.at r k)
+  on_box_lem : (r : Option Rect) (k : Rect → Result Step Refusal) → (r ≡ None → NoneBefore s st × Nine s st) → ((box : Rect) → Told (k box)) → Told (on_box st.at r k)
   on_box_lem (Some box) k f g = g box
   on_box_lem None k f g = λ e. (refl, f refl)
 
-  module _ (byte : st.at < length s) (known : byte_at s st ≤ 7) (due : due_fits (byte_at s st) st.due ≡ true) (room : st.at + length_of (byte_at s st) ≤ length s) (operands : operands_at s st.at (byte_at s st) ≡ 0) where
+  module _ (byte : st.at < length s) (known : byte_at s st ≤ 7) (due : due_fits (byte_at s st) st.due ≡ true) (room : st.at + length_of (byte_at s st) ≤ length s) (operands : operands_at s st.at (byte_at s st) ≡ Ok tt) where
     drawn_told : (len : ℕ) → Draws (byte_at s st) → announced s st.at (byte_at s st) ≡ 0 → Told (draw_step s st len)
     unfolding draw_step
     drawn_told len d z =
         pick_cases Told (leb 4096 st.commands) _ _ (λ e n. absurd (omega (arith, n)))
-        λ e. on_box_lem (try_with (command_at s st.at) st.united) (λ box. Draw (drawn st len 0) st.at box)
+        λ e. on_box_lem (try_with (command_at s st.at) st.united) (λ box. Ok (Draw (drawn st len 0) st.at box))
         (λ r.
         let none : glyph_count (command_at s st.at) ≡ 0 = sym (count_is s st.at room) ∙ z in
         let same = own_is s st.at st.united none in
@@ -112,48 +114,48 @@ module _ (s : List ℕ) (st : Cursor) where
       (λ a. pick_cases Told (leb (byte_at s st) 7) _ _
       (λ k. pick_cases Told (due_fits (byte_at s st) st.due) _ _
       (λ d. pick_cases Told (ltb (length s - st.at) (length_of (byte_at s st))) _ _ (λ e n. absurd (omega (arith, n)))
-      (λ l. pick_cases Told (eqb (operands_at s st.at (byte_at s st)) 0) _ _
-      (λ o. let i = ltb-true st.at (length s) a in effect_told i (leb-true _ _ k) d (omega (arith, i, ltb-false (length s - st.at) (length_of (byte_at s st)) l)) (eqb-true _ _ o))
-      (λ o n. absurd (omega (arith, n, operands_most s st.at (byte_at s st))))))
+      (λ l. operands_cases Told st.at (operands_at s st.at (byte_at s st)) _
+      (λ o. let i = ltb-true st.at (length s) a in effect_told i (leb-true _ _ k) d (omega (arith, i, ltb-false (length s - st.at) (length_of (byte_at s st)) l)) o)
+      (λ f o n. absurd (omega (arith, n, subst UpTo4 o (operands_most s st.at (byte_at s st)))))))
       (λ e n. absurd (omega (arith, n))))
       (λ e n. absurd (omega (arith, n))))
       (λ e n. absurd (omega (arith, n)))
 
-  pub given_nine : (p : ℕ) → step_at s st ≡ Refused 9 p → (p ≡ st.at) × (NoneBefore s st × Nine s st)
+  pub given_nine : (p : ℕ) → step_at s st ≡ refused UnboundedBox p → (p ≡ st.at) × (NoneBefore s st × Nine s st)
   given_nine p e = let h = step_told (ap number_in e) in (sym (ap place_in e) ∙ h.0, h.1)
 
   -- ---- such a case is given 9
   module _ (w : NoneBefore s st) where
     effect_is : step_at s st ≡ effect_of s st (byte_at s st)
-    effect_is = sym (step_effect s st (byte_at s st) refl w.byte w.known w.due 0 (omega (arith, w.byte, w.room)) (sym w.operands) refl)
+    effect_is = sym (step_effect s st (byte_at s st) refl w.byte w.known w.due (omega (arith, w.byte, w.room)) w.operands)
 
-    drawn_nine : Draws (byte_at s st) → DrawnUnbounded s st → step_at s st ≡ Refused 9 st.at
+    drawn_nine : Draws (byte_at s st) → DrawnUnbounded s st → step_at s st ≡ refused UnboundedBox st.at
     unfolding draw_step
     drawn_nine d u =
         effect_is
         ∙ sym (draws_whole s st (byte_at s st) _ d refl (count_is s st.at w.room ∙ u.0))
         ∙ pick_false (leb 4096 st.commands) _ _ (lt-leb 4096 st.commands (w.commands d))
-        ∙ ap (λ (r : Option Rect). on_box st.at r (λ box. Draw (drawn st (length_of (byte_at s st)) 0) st.at box)) (ap (λ (b : Rect). try_transform (transform_of (command_at s st.at)) b) (own_is s st.at st.united u.0) ∙ unbounded_no_box _ _ u.1)
+        ∙ ap (λ (r : Option Rect). on_box st.at r (λ box. Ok (Draw (drawn st (length_of (byte_at s st)) 0) st.at box))) (ap (λ (b : Rect). try_transform (transform_of (command_at s st.at)) b) (own_is s st.at st.united u.0) ∙ unbounded_no_box _ _ u.1)
 
     own_glyph : byte_at s st ≡ 6 → step_at s st ≡ on_box st.at (try_transform (transform_of (command_at s st.run)) (rect_at s (st.at + 13))) (λ own. last_step s st (rect_at s (st.at + 13)))
     unfolding glyph_step
     own_glyph six = effect_is ∙ sym (effect_glyph s st (byte_at s st) six) ∙ pick_false (leb 16384 st.glyphs) _ _ (lt-leb 16384 st.glyphs (w.glyphs six))
 
-    last_nine : st.due ≡ 1 → UnboundedBox (transform_of (command_at s st.run)) (unite st (rect_at s (st.at + 13))) → last_step s st (rect_at s (st.at + 13)) ≡ Refused 9 st.at
+    last_nine : st.due ≡ 1 → UnboundedBox (transform_of (command_at s st.run)) (unite st (rect_at s (st.at + 13))) → last_step s st (rect_at s (st.at + 13)) ≡ refused UnboundedBox st.at
     unfolding last_step
     last_nine one u =
         pick_true (eqb st.due 1) _ _ (eq-eqb _ _ one)
-        ∙ ap (λ (r : Option Rect). on_box st.at r (λ whole. Draw (glyph_read st (rect_at s (st.at + 13))) st.run whole)) (unbounded_no_box _ _ u)
+        ∙ ap (λ (r : Option Rect). on_box st.at r (λ whole. Ok (Draw (glyph_read st (rect_at s (st.at + 13))) st.run whole))) (unbounded_no_box _ _ u)
 
-    glyph_nine : byte_at s st ≡ 6 → GlyphUnbounded s st → step_at s st ≡ Refused 9 st.at
+    glyph_nine : byte_at s st ≡ 6 → GlyphUnbounded s st → step_at s st ≡ refused UnboundedBox st.at
     glyph_nine six (inl u) = own_glyph six ∙ ap (λ (r : Option Rect). on_box st.at r (λ own. last_step s st (rect_at s (st.at + 13)))) (unbounded_no_box _ _ u)
     glyph_nine six (inr (one, u)) = own_glyph six ∙ either (try_transform (transform_of (command_at s st.run)) (rect_at s (st.at + 13)))
       where
         -- whatever its own box comes to
-        either : (r : Option Rect) → on_box st.at r (λ own. last_step s st (rect_at s (st.at + 13))) ≡ Refused 9 st.at
+        either : (r : Option Rect) → on_box st.at r (λ own. last_step s st (rect_at s (st.at + 13))) ≡ refused UnboundedBox st.at
         either (Some own) = last_nine one u
         either None = refl
 
-    pub nine_given : Nine s st → step_at s st ≡ Refused 9 st.at
+    pub nine_given : Nine s st → step_at s st ≡ refused UnboundedBox st.at
     nine_given (inl (d, u)) = drawn_nine d u
     nine_given (inr (six, u)) = glyph_nine six u

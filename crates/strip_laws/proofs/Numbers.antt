@@ -3,6 +3,9 @@ use mathlib.Core.List.{List, [], ◌∷◌}
 use Prim.Native.Nat.{ℕ, zero, suc, ◌+◌, ◌-◌}
 use lib.Dec.{leb, eqb}
 use lib.ListN.{length, get_or}
+use Rattle.std.specs.Prelude.{Result, Ok, Err}
+use Rattle.refusals.specs.declared.Refusal.{Refusal}
+use Rattle.refusals.specs.Table.{refused}
 use Rattle.lists.specs.Members.{All}
 use Rattle.lists.proofs.Picks.{pick_cases}
 use Rattle.lists.proofs.Members.{all_append, all_take}
@@ -16,7 +19,7 @@ use Rattle.strip_format.specs.Format.{length_of, blank, command_at, glyphs_from}
 use Rattle.strip_format.proofs.Numbers.{zero_number, number_at, rect_numbers, entry_numbers}
 use Rattle.strip.specs.declared.Cursor.{Cursor}
 use Rattle.strip.specs.declared.Step.{Step}
-use Rattle.strip.specs.declared.Step.TheVariants.{Next, Clip, Pop, Draw, End, Refused}
+use Rattle.strip.specs.declared.Step.TheVariants.{Next, Clip, Pop, Draw, End}
 use Rattle.strip.specs.Steps.{start_at, step_at}
 use Rattle.strip_laws.proofs.Steps.{by_cases, Kept, list_keeps}
 use Rattle.strip.specs.Reading.{command_of, Listing, noted, commands_of}
@@ -49,13 +52,13 @@ command_numbers : (s : List ℕ) (at : ℕ) (under : List Rect) → All (Edges N
 command_numbers s at under h = record { draw = draw_numbers s at; glyphs = glyph_numbers s (at + 103) (glyph_count (command_at s at)); clips = h }
 
 -- ---- steps: what a CLIP opens has finite edges
-abbrev pub Opens : Step → Type 0
-Opens (Next t) = Unit {0}
-Opens (Clip t box) = Edges Number box
-Opens (Pop t) = Unit {0}
-Opens (Draw t at box) = Unit {0}
-Opens (End t) = Unit {0}
-Opens (Refused n p) = Unit {0}
+abbrev pub Opens : Result Step Refusal → Type 0
+Opens (Ok (Next t)) = Unit {0}
+Opens (Ok (Clip t box)) = Edges Number box
+Opens (Ok (Pop t)) = Unit {0}
+Opens (Ok (Draw t at box)) = Unit {0}
+Opens (Ok (End t)) = Unit {0}
+Opens (Err why) = Unit {0}
 
 pub step_opens : (s : List ℕ) (st : Cursor) → Opens (step_at s st)
 step_opens s st = by_cases s st Opens record {
@@ -82,22 +85,22 @@ one_command : (c : Command) → Floats Number c → All (Floats Number) (c ∷ [
 unfolding All
 one_command c h = (h, tt)
 
-noted_numbers : (s : List ℕ) (l : Listing) (x : Step) → Opens x → Numbers l → Numbers (noted s l x)
-noted_numbers s l (Next t) o h = h
-noted_numbers s l (Clip t box) o h = record { clips = all_append (Edges Number) l.clips (box ∷ []) h.clips (one_rect box o); commands = h.commands }
-noted_numbers s l (Pop t) o h = record { clips = all_take (Edges Number) (length l.clips - 1) l.clips h.clips; commands = h.commands }
-noted_numbers s l (Draw t at box) o h = record { clips = h.clips; commands = all_append (Floats Number) l.commands (command_of s at l.clips ∷ []) h.commands (one_command (command_of s at l.clips) (command_numbers s at l.clips h.clips)) }
-noted_numbers s l (End t) o h = h
-noted_numbers s l (Refused n p) o h = h
+noted_numbers : (s : List ℕ) (l : Listing) (x : Result Step Refusal) → Opens x → Numbers l → Numbers (noted s l x)
+noted_numbers s l (Ok (Next t)) o h = h
+noted_numbers s l (Ok (Clip t box)) o h = record { clips = all_append (Edges Number) l.clips (box ∷ []) h.clips (one_rect box o); commands = h.commands }
+noted_numbers s l (Ok (Pop t)) o h = record { clips = all_take (Edges Number) (length l.clips - 1) l.clips h.clips; commands = h.commands }
+noted_numbers s l (Ok (Draw t at box)) o h = record { clips = h.clips; commands = all_append (Floats Number) l.commands (command_of s at l.clips ∷ []) h.commands (one_command (command_of s at l.clips) (command_numbers s at l.clips h.clips)) }
+noted_numbers s l (Ok (End t)) o h = h
+noted_numbers s l (Err why) o h = h
 
 -- no step asks anything of the cursor
-pub onward : (x : Step) → Kept (λ st. Unit {0}) (λ st. Unit {0}) x
-onward (Next t) = tt
-onward (Clip t box) = tt
-onward (Pop t) = tt
-onward (Draw t at box) = tt
-onward (End t) = tt
-onward (Refused n p) = tt
+pub onward : (x : Result Step Refusal) → Kept (λ st. Unit {0}) (λ st. Unit {0}) x
+onward (Ok (Next t)) = tt
+onward (Ok (Clip t box)) = tt
+onward (Ok (Pop t)) = tt
+onward (Ok (Draw t at box)) = tt
+onward (Ok (End t)) = tt
+onward (Err why) = tt
 
 no_numbers : Numbers (record { clips = []; commands = [] })
 unfolding All

@@ -3,11 +3,14 @@ use mathlib.Core.List.{List, [], ◌∷◌}
 use Prim.Native.Nat.{ℕ, zero, suc, ◌≤◌, ◌<◌}
 use native.Mathlib.Omega.{arith}
 use lib.ListN.{length}
+use Rattle.std.specs.Prelude.{Result, Ok, Err}
+use Rattle.refusals.specs.declared.Refusal.{Refusal}
+use Rattle.refusals.specs.Table.{refused}
 use Rattle.lists.specs.Members.{All, Pairs}
 use Rattle.lists.proofs.Members.{all_map}
 use Rattle.strip.specs.declared.Cursor.{Cursor}
 use Rattle.strip.specs.declared.Step.{Step}
-use Rattle.strip.specs.declared.Step.TheVariants.{Next, Clip, Pop, Draw, End, Refused}
+use Rattle.strip.specs.declared.Step.TheVariants.{Next, Clip, Pop, Draw, End}
 use Rattle.strip.specs.Steps.{start_at, step_at}
 use Rattle.strip.proofs.Moves.{Moved, step_moves}
 use Rattle.strip_laws.specs.Limits.{on_offset, offsets_from, offsets_of}
@@ -19,13 +22,13 @@ pub record Since (m : ℕ) (st : Cursor) : Type 0 where
   pub stands : m ≤ st.at
   pub running : 0 < st.due → m ≤ st.run
 
-abbrev Ascends : ℕ → Step → Type 0
-Ascends m (Next t) = Since m t
-Ascends m (Clip t box) = Since m t
-Ascends m (Pop t) = Since m t
-Ascends m (Draw t at box) = (m ≤ at) × Since (suc at) t
-Ascends m (End t) = Unit {0}
-Ascends m (Refused n p) = Unit {0}
+abbrev Ascends : ℕ → Result Step Refusal → Type 0
+Ascends m (Ok (Next t)) = Since m t
+Ascends m (Ok (Clip t box)) = Since m t
+Ascends m (Ok (Pop t)) = Since m t
+Ascends m (Ok (Draw t at box)) = (m ≤ at) × Since (suc at) t
+Ascends m (Ok (End t)) = Unit {0}
+Ascends m (Err why) = Unit {0}
 
 step_ascends : (s : List ℕ) (m : ℕ) (st : Cursor) → InRun s st → Since m st → Moved (length s) st (step_at s st) → Ascends m (step_at s st)
 step_ascends s m st h a = by_cases s st (λ x. Moved (length s) st x → Ascends m x) record {
@@ -52,13 +55,13 @@ rising_more : (m at : ℕ) (l : List ℕ) → m ≤ at → Rising (suc at) l →
 unfolding All Pairs
 rising_more m at l h r = record { from = (h, all_map (λ i. suc at ≤ i) (λ i. m ≤ i) (λ i k. omega arith) l r.from); ascending = (all_map (λ i. suc at ≤ i) (λ i. at < i) (λ i k. omega arith) l r.from, r.ascending) }
 
-offset_step : (s : List ℕ) (m : ℕ) (x : Step) (k : Cursor → List ℕ) → Kept (InRun s) (λ t. Unit {0}) x → Ascends m x → ((i : ℕ) (t : Cursor) → InRun s t → Since i t → Rising i (k t)) → Rising m (on_offset x k)
-offset_step s m (Next t) k h a f = f m t h a
-offset_step s m (Clip t box) k h a f = f m t h a
-offset_step s m (Pop t) k h a f = f m t h a
-offset_step s m (Draw t at box) k h a f = rising_more m at (k t) a.0 (f (suc at) t h a.1)
-offset_step s m (End t) k h a f = rising_none m
-offset_step s m (Refused n p) k h a f = rising_none m
+offset_step : (s : List ℕ) (m : ℕ) (x : Result Step Refusal) (k : Cursor → List ℕ) → Kept (InRun s) (λ t. Unit {0}) x → Ascends m x → ((i : ℕ) (t : Cursor) → InRun s t → Since i t → Rising i (k t)) → Rising m (on_offset x k)
+offset_step s m (Ok (Next t)) k h a f = f m t h a
+offset_step s m (Ok (Clip t box)) k h a f = f m t h a
+offset_step s m (Ok (Pop t)) k h a f = f m t h a
+offset_step s m (Ok (Draw t at box)) k h a f = rising_more m at (k t) a.0 (f (suc at) t h a.1)
+offset_step s m (Ok (End t)) k h a f = rising_none m
+offset_step s m (Err why) k h a f = rising_none m
 
 offsets_rise : (s : List ℕ) (n m : ℕ) (st : Cursor) → InRun s st → Since m st → Rising m (offsets_from n s st)
 unfolding offsets_from

@@ -6,6 +6,8 @@ use native.Mathlib.Omega.{arith}
 use lib.Dec.{eqb}
 use lib.ListN.{length, get_or}
 use borrow.Author.Tests.{eq-eqb, ne_eqb}
+use Rattle.refusals.specs.declared.Refusal.{Refusal}
+use Rattle.refusals.specs.Table.{refused}
 use Rattle.lists.specs.Members.{All}
 use Rattle.lists.proofs.Members.{all_append}
 use Rattle.lists.proofs.Picks.{pick_true, pick_false}
@@ -20,11 +22,11 @@ use Rattle.strip_format.specs.Format.{length_of, rect_at, command_at, glyph_at, 
 use Rattle.strip_format.proofs.Lengths.{length_run}
 use Rattle.strip.specs.declared.Cursor.{Cursor}
 use Rattle.strip.specs.declared.Step.{Step}
-use Rattle.strip.specs.declared.Step.TheVariants.{Next, Clip, Pop, Draw, End, Refused}
+use Rattle.strip.specs.declared.Step.TheVariants.{Next, Clip, Pop, Draw, End}
 use Rattle.strip.specs.Steps.{unite, step_at}
 use Rattle.strip_laws.specs.Limits.{Whole}
 use Rattle.strip_laws.proofs.Steps.{run_count, by_cases, Kept}
-use Rattle.std.specs.Prelude.{Some}
+use Rattle.std.specs.Prelude.{Some, Result, Ok, Err}
 
 -- a glyph whose box has finite corners under a command's affine
 abbrev pub Shown : DrawCommand → Glyph → Type 0
@@ -100,13 +102,13 @@ step_in_run s st h = by_cases s st (Kept (InRun s) (λ t. Unit {0})) record {
   last = λ g fits d own o box f. (λ k. absurd (omega (arith, d)));
 }
 
-abbrev pub Draws : List ℕ → Step → Type 0
-Draws s (Next t) = Unit {0}
-Draws s (Clip t box) = Unit {0}
-Draws s (Pop t) = Unit {0}
-Draws s (Draw t at box) = Whole s at
-Draws s (End t) = Unit {0}
-Draws s (Refused n p) = Unit {0}
+abbrev pub Draws : List ℕ → Result Step Refusal → Type 0
+Draws s (Ok (Next t)) = Unit {0}
+Draws s (Ok (Clip t box)) = Unit {0}
+Draws s (Ok (Pop t)) = Unit {0}
+Draws s (Ok (Draw t at box)) = Whole s at
+Draws s (Ok (End t)) = Unit {0}
+Draws s (Err why) = Unit {0}
 
 pub step_draws : (s : List ℕ) (st : Cursor) → InRun s st → Draws s (step_at s st)
 step_draws s st h = by_cases s st (Draws s) record {

@@ -9,6 +9,9 @@ use native.Mathlib.Omega.{arith}
 use lib.Dec.{leb, ltb, eqb}
 use lib.ListN.{length, get_or}
 use borrow.Author.Tests.{leb-true, leb-false, ltb-true, ltb-false, eqb-true, eqb-false, eq-eqb, ne_eqb}
+use Rattle.refusals.specs.declared.Fault.{Fault}
+use Rattle.refusals.specs.declared.Refusal.{Refusal}
+use Rattle.refusals.specs.Table.{refusal}
 use Rattle.lists.specs.Pick.{pick}
 use Rattle.lists.proofs.Picks.{pick_cases}
 use Rattle.geometry.specs.declared.Rect.{Rect}
@@ -21,15 +24,15 @@ use Rattle.strip_format.proofs.Lengths.{length_clip, length_run, length_glyph}
 use Rattle.operand_checks.specs.Operands.{operands_at}
 use Rattle.strip.specs.declared.Cursor.{Cursor}
 use Rattle.strip.specs.declared.Step.{Step}
-use Rattle.strip.specs.declared.Step.TheVariants.{Next, Clip, Pop, Draw, End, Refused}
+use Rattle.strip.specs.declared.Step.TheVariants.{Next, Clip, Pop, Draw, End}
 use Rattle.strip.specs.Steps.{due_fits, on_box, clip_step, pop_step, drawn, draw_step, run_step, unite, glyph_read, last_step, glyph_step, end_step, effect_of, step_at}
-use Rattle.strip.proofs.Effects.{due_glyph, step_past, step_unknown, step_due, step_short, step_operands, step_effect}
+use Rattle.strip.proofs.Effects.{due_glyph, step_past, step_unknown, step_due, step_short, step_operands, step_effect, operands_cases}
 use Rattle.strip.proofs.Moves.{at_byte}
 use Rattle.strip_laws.proofs.Runs.{InRun}
 use Rattle.little_endian.proofs.Alike.{u16_same}
 use Rattle.strip_format.proofs.Alike.{rect_same}
 use Rattle.strip_laws.proofs.Alike.{command_same, operands_same}
-use Rattle.std.specs.Prelude.{Option, Some, None}
+use Rattle.std.specs.Prelude.{Option, Some, None, Result, Ok, Err}
 
 -- ---- what is the same
 -- the same cursor, `by` bytes further on; where no glyph is due it does not matter where the last run began
@@ -44,22 +47,22 @@ pub record Shifted (by : ℕ) (c d : Cursor) : Type 0 where
   pub united_is : d.united ≡ c.united
 
 -- the same step, `by` bytes further on
-pub data StepAlike (by : ℕ) : Step → Step → Type 0 where
-  nexts : {c d : Cursor} → Shifted by c d → StepAlike by (Next c) (Next d)
-  clips : {c d : Cursor} {a b : Rect} → Shifted by c d → a ≡ b → StepAlike by (Clip c a) (Clip d b)
-  pops : {c d : Cursor} → Shifted by c d → StepAlike by (Pop c) (Pop d)
-  draws : {c d : Cursor} {p q : ℕ} {a b : Rect} → Shifted by c d → q ≡ by + p → a ≡ b → StepAlike by (Draw c p a) (Draw d q b)
-  ends : {c d : Cursor} → Shifted by c d → StepAlike by (End c) (End d)
-  turns : {n p q : ℕ} → q ≡ by + p → StepAlike by (Refused n p) (Refused n q)
+pub data StepAlike (by : ℕ) : Result Step Refusal → Result Step Refusal → Type 0 where
+  nexts : {c d : Cursor} → Shifted by c d → StepAlike by (Ok (Next c)) (Ok (Next d))
+  clips : {c d : Cursor} {a b : Rect} → Shifted by c d → a ≡ b → StepAlike by (Ok (Clip c a)) (Ok (Clip d b))
+  pops : {c d : Cursor} → Shifted by c d → StepAlike by (Ok (Pop c)) (Ok (Pop d))
+  draws : {c d : Cursor} {p q : ℕ} {a b : Rect} → Shifted by c d → q ≡ by + p → a ≡ b → StepAlike by (Ok (Draw c p a)) (Ok (Draw d q b))
+  ends : {c d : Cursor} → Shifted by c d → StepAlike by (Ok (End c)) (Ok (End d))
+  turns : {f : Fault} {p q : ℕ} → q ≡ by + p → StepAlike by (Err (refusal f p)) (Err (refusal f q))
 
 -- a step that is not turned away
-abbrev pub Goes : Step → Type 0
-Goes (Next t) = Unit {0}
-Goes (Clip t box) = Unit {0}
-Goes (Pop t) = Unit {0}
-Goes (Draw t at box) = Unit {0}
-Goes (End t) = Unit {0}
-Goes (Refused n p) = ⊥
+abbrev pub Goes : Result Step Refusal → Type 0
+Goes (Ok (Next t)) = Unit {0}
+Goes (Ok (Clip t box)) = Unit {0}
+Goes (Ok (Pop t)) = Unit {0}
+Goes (Ok (Draw t at box)) = Unit {0}
+Goes (Ok (End t)) = Unit {0}
+Goes (Err why) = ⊥
 
 -- a cursor past an END
 abbrev past : Cursor → Cursor
@@ -84,10 +87,10 @@ eqb_shift by x y = go (eqb x y) refl
 
 module _ (s r : List ℕ) (by : ℕ) (same : (i j : ℕ) → j ≡ by + i → i < length s → get_or s i 0 ≡ get_or r j 0) (more : by + length s ≤ length r) where
   module _ (st to : Cursor) (e : Shifted by st to) where
-    abbrev R : Step → Step → Type 0
+    abbrev R : Result Step Refusal → Result Step Refusal → Type 0
     R x y = StepAlike by x y
 
-    boxes : (x y : Option Rect) (k j : Rect → Step) → y ≡ x → ((box : Rect) → R (k box) (j box)) → R (on_box st.at x k) (on_box to.at y j)
+    boxes : (x y : Option Rect) (k j : Rect → Result Step Refusal) → y ≡ x → ((box : Rect) → R (k box) (j box)) → R (on_box st.at x k) (on_box to.at y j)
     boxes x y k j f g = subst (λ (z : Option Rect). R (on_box st.at x k) (on_box to.at z j)) (sym f) (go x)
       where
         go : (z : Option Rect) → R (on_box st.at z k) (on_box to.at z j)
@@ -162,11 +165,11 @@ module _ (s r : List ℕ) (by : ℕ) (same : (i j : ℕ) → j ≡ by + i → i 
         λ t. draw_alike (length_of b) own
 
     -- s goes on, or both inputs end alike
-    abbrev pub Fair : Step → Type 0
+    abbrev pub Fair : Result Step Refusal → Type 0
     Fair x = Goes x ⊎ (length r ≡ by + length s)
 
-    turned : (n p q : ℕ) (y : Step) → ((length r ≡ by + length s) → Refused n q ≡ y) → ((length r ≡ by + length s) → q ≡ by + p) → Fair (Refused n p) → R (Refused n p) y
-    turned n p q y f g h = ⊎_elim (λ k. absurd k) (λ k. subst (R (Refused n p)) (f k) (turns (g k))) h
+    turned : (f : Fault) (p q : ℕ) (y : Result Step Refusal) → ((length r ≡ by + length s) → Err (refusal f q) ≡ y) → ((length r ≡ by + length s) → q ≡ by + p) → Fair (Err (refusal f p)) → R (Err (refusal f p)) y
+    turned f p q y u g h = ⊎_elim (λ k. absurd k) (λ k. subst (R (Err (refusal f p))) (u k) (turns (g k))) h
 
     pub step_alike : InRun s st → Fair (step_at s st) → R (step_at s st) (step_at r to)
     unfolding step_at
@@ -177,21 +180,21 @@ module _ (s r : List ℕ) (by : ℕ) (same : (i j : ℕ) → j ≡ by + i → i 
         (λ k. let k' = leb-true b 7 k in
         pick_cases M (due_fits b st.due) _ _
         (λ d. pick_cases M (ltb (length s - st.at) (length_of b)) _ _
-        (λ l. turned 2 st.at to.at (step_at r to) (λ x. step_short r to b (is a') (inside a') k' (due d) (omega (arith, x, e.at_is, ltb-true (length s - st.at) (length_of b) l))) (λ x. e.at_is))
+        (λ l. turned CutOff st.at to.at (step_at r to) (λ x. step_short r to b (is a') (inside a') k' (due d) (omega (arith, x, e.at_is, ltb-true (length s - st.at) (length_of b) l))) (λ x. e.at_is))
         (λ l. let fits : st.at + length_of b ≤ length s = omega (arith, ltb-false (length s - st.at) (length_of b) l) in
         let o = operands_same s r by (length s) same st.at to.at b e.at_is fits in
         let far : length_of b ≤ length r - to.at = omega (arith, e.at_is) in
-        pick_cases M (eqb (operands_at s st.at b) 0) _ _
-        (λ z x. subst (R (effect_of s st b)) (step_effect r to b (is a') (inside a') k' (due d) (operands_at s st.at b) far o (eqb-true (operands_at s st.at b) 0 z)) (effect_alike run b refl d fits))
-        (λ z. turned (operands_at s st.at b) st.at to.at (step_at r to) (λ x. step_operands r to b (is a') (inside a') k' (due d) (operands_at s st.at b) far o (eqb-false (operands_at s st.at b) 0 z)) (λ x. e.at_is))))
-        (λ d. turned 7 st.at to.at (step_at r to) (λ x. step_due r to b (is a') (inside a') k' (due d)) (λ x. e.at_is)))
-        (λ k. turned 3 st.at to.at (step_at r to) (λ x. step_unknown r to b (is a') (inside a') (leb-false b 7 k)) (λ x. e.at_is)))
-        (λ a. turned 2 (length s) (length r) (step_at r to) (λ x. step_past r to (omega (arith, x, e.at_is, ltb-false st.at (length s) a))) (λ x. x))
+        operands_cases M st.at (operands_at s st.at b) (effect_of s st b)
+        (λ z x. subst (R (effect_of s st b)) (step_effect r to b (is a') (inside a') k' (due d) far (sym o ∙ z)) (effect_alike run b refl d fits))
+        (λ f z. turned f st.at to.at (step_at r to) (λ x. step_operands r to b (is a') (inside a') k' (due d) f far (sym o ∙ z)) (λ x. e.at_is))))
+        (λ d. turned GlyphOrder st.at to.at (step_at r to) (λ x. step_due r to b (is a') (inside a') k' (due d)) (λ x. e.at_is)))
+        (λ k. turned UnknownCode st.at to.at (step_at r to) (λ x. step_unknown r to b (is a') (inside a') (leb-false b 7 k)) (λ x. e.at_is)))
+        (λ a. turned CutOff (length s) (length r) (step_at r to) (λ x. step_past r to (omega (arith, x, e.at_is, ltb-false st.at (length s) a))) (λ x. x))
       where
         b : ℕ
         b = get_or s st.at 0
 
-        M : Step → Type 0
+        M : Result Step Refusal → Type 0
         M x = Fair x → R x (step_at r to)
 
         is : st.at < length s → get_or r to.at 0 ≡ b

@@ -3,6 +3,8 @@ use mathlib.Core.List.{List, [], ◌∷◌}
 use Prim.Native.Nat.{ℕ, zero, suc, ◌+◌}
 use lib.Dec.{leb, eqb}
 use lib.ListN.{length, get_or}
+use Rattle.std.specs.Prelude.{Result, Ok, Err}
+use Rattle.refusals.specs.declared.Refusal.{Refusal}
 use Rattle.lists.specs.Members.{All}
 use Rattle.lists.proofs.Members.{all_none, all_append}
 use Rattle.lists.proofs.Picks.{pick_cases}
@@ -13,7 +15,7 @@ use Rattle.commands.specs.Sizes.{size_of}
 use Rattle.strip_format.specs.Format.{length_of, command_at, glyphs_from}
 use Rattle.strip_format.proofs.Numbers.{Single, single_zero, single_at}
 use Rattle.strip.specs.declared.Step.{Step}
-use Rattle.strip.specs.declared.Step.TheVariants.{Next, Clip, Pop, Draw, End, Refused}
+use Rattle.strip.specs.declared.Step.TheVariants.{Next, Clip, Pop, Draw, End}
 use Rattle.strip.specs.Steps.{start_at, step_at}
 use Rattle.strip.specs.Reading.{command_of, Listing, noted, commands_of}
 use Rattle.strip_laws.proofs.Steps.{list_keeps}
@@ -40,14 +42,14 @@ place_singles s at (suc n) = ((single_at s (at + 5), single_at s (at + 9)), plac
 
 -- ---- the list: what holds of a command wherever it stands, and under whichever clips, holds of all that are listed
 module _ (s : List ℕ) (P : Command → Type 0) (f : (at : ℕ) (under : List Rect) → P (command_of s at under)) where
-  noted_all : (l : Listing) (x : Step) → All P l.commands → All P (noted s l x).commands
+  noted_all : (l : Listing) (x : Result Step Refusal) → All P l.commands → All P (noted s l x).commands
   unfolding All
-  noted_all l (Next t) h = h
-  noted_all l (Clip t box) h = h
-  noted_all l (Pop t) h = h
-  noted_all l (Draw t at box) h = all_append P l.commands (command_of s at l.clips ∷ []) h (f at l.clips, tt)
-  noted_all l (End t) h = h
-  noted_all l (Refused n p) h = h
+  noted_all l (Ok (Next t)) h = h
+  noted_all l (Ok (Clip t box)) h = h
+  noted_all l (Ok (Pop t)) h = h
+  noted_all l (Ok (Draw t at box)) h = all_append P l.commands (command_of s at l.clips ∷ []) h (f at l.clips, tt)
+  noted_all l (Ok (End t)) h = h
+  noted_all l (Err why) h = h
 
   pub all_listed : (at : ℕ) → All P (commands_of s at)
   all_listed at = list_keeps (λ st. Unit {0}) (λ l. All P l.commands) s (λ st h. onward (step_at s st)) (λ st l h o. noted_all l (step_at s st) o) (suc (length s)) (start_at at) (record { clips = []; commands = [] }) tt (all_none P)

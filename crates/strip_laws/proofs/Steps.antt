@@ -7,6 +7,10 @@ use native.Mathlib.Omega.{arith}
 use lib.Dec.{leb, ltb, eqb}
 use lib.ListN.{length, get_or}
 use borrow.Author.Tests.{le-leb, leb-false, ltb-true, ltb-false, eqb-true, eqb-false}
+use Rattle.refusals.specs.declared.Fault.{Fault}
+use Rattle.refusals.specs.declared.Fault.TheVariants.{CutOff, UnknownCode, NoOpenClip, TooMany, GlyphOrder, UnboundedBox}
+use Rattle.refusals.specs.declared.Refusal.{Refusal}
+use Rattle.refusals.specs.Table.{refused, refusal}
 use Rattle.lists.proofs.Picks.{pick_false, pick_cases}
 use Rattle.little_endian.specs.Words.{u16_at}
 use Rattle.geometry.specs.declared.Rect.{Rect}
@@ -18,13 +22,12 @@ use Rattle.strip_format.proofs.Lengths.{length_run, length_glyph}
 use Rattle.operand_checks.specs.Operands.{operands_at}
 use Rattle.strip.specs.declared.Cursor.{Cursor}
 use Rattle.strip.specs.declared.Step.{Step}
-use Rattle.strip.specs.declared.Step.TheVariants.{Next, Clip, Pop, Draw, End, Refused}
-use Rattle.strip.specs.declared.Answer.{Answer}
+use Rattle.strip.specs.declared.Step.TheVariants.{Next, Clip, Pop, Draw, End}
 use Rattle.strip.specs.Steps.{due_fits, on_box, clip_step, pop_step, drawn, draw_step, run_step, unite, glyph_read, last_step, glyph_step, end_step, effect_of, step_at}
-use Rattle.strip.proofs.Effects.{due_glyph}
+use Rattle.strip.proofs.Effects.{due_glyph, operands_cases}
 use Rattle.strip.specs.Reading.{on_step, read_from, Listing, noted, on_next, list_from}
 use Rattle.strip_laws.specs.Limits.{WhereRead}
-use Rattle.std.specs.Prelude.{Option, Some, None}
+use Rattle.std.specs.Prelude.{Option, Some, None, Result, Ok, Err}
 
 -- ---- case by case
 -- the cursor behind a CLIP, and behind a POP
@@ -63,54 +66,54 @@ unfolding due_fits
 due_none b k due e n h = eqb-true due 0 (sym (pick_false (eqb b 6) (ltb 0 due) (eqb due 0) (ap (λ (x : ℕ). eqb x 6) e ∙ n)) ∙ h)
 
 -- M holds of every step that may be taken at a cursor
-pub record Cases (s : List ℕ) (st : Cursor) (M : Step → Type 0) : Type 0 where
-  pub refused : (n p : ℕ) → M (Refused n p)
+pub record Cases (s : List ℕ) (st : Cursor) (M : Result Step Refusal → Type 0) : Type 0 where
+  pub refused : (f : Fault) (p : ℕ) → M (Err (refusal f p))
   pub ended : st.due ≡ 0 → M (end_step st)
-  pub clip : st.depth < 32 → st.clips < 4096 → st.due ≡ 0 → M (Clip (opened st) (rect_at s (st.at + 1)))
-  pub pop : (st.depth ≡ 0 → ⊥) → st.due ≡ 0 → M (Pop (closed st))
-  pub draw : (len : ℕ) → st.commands < 4096 → st.due ≡ 0 → Alone s st.at → (box : Rect) → try_with (command_at s st.at) st.united ≡ Some box → M (Draw (drawn st len 0) st.at box)
-  pub run : st.commands < 4096 → st.due ≡ 0 → get_or s st.at 0 ≡ 5 → st.at + 103 ≤ length s → (u16_at s (st.at + 101) ≡ 0 → ⊥) → M (Next (drawn st 103 (u16_at s (st.at + 101))))
-  pub glyph : st.glyphs < 16384 → 0 < st.due → st.at + 45 ≤ length s → (st.due ≡ 1 → ⊥) → (own : Rect) → try_transform (transform_of (command_at s st.run)) (rect_at s (st.at + 13)) ≡ Some own → M (Next (glyph_read st (rect_at s (st.at + 13))))
-  pub last : st.glyphs < 16384 → st.at + 45 ≤ length s → st.due ≡ 1 → (own : Rect) → try_transform (transform_of (command_at s st.run)) (rect_at s (st.at + 13)) ≡ Some own → (box : Rect) → try_transform (transform_of (command_at s st.run)) (unite st (rect_at s (st.at + 13))) ≡ Some box → M (Draw (glyph_read st (rect_at s (st.at + 13))) st.run box)
+  pub clip : st.depth < 32 → st.clips < 4096 → st.due ≡ 0 → M (Ok (Clip (opened st) (rect_at s (st.at + 1))))
+  pub pop : (st.depth ≡ 0 → ⊥) → st.due ≡ 0 → M (Ok (Pop (closed st)))
+  pub draw : (len : ℕ) → st.commands < 4096 → st.due ≡ 0 → Alone s st.at → (box : Rect) → try_with (command_at s st.at) st.united ≡ Some box → M (Ok (Draw (drawn st len 0) st.at box))
+  pub run : st.commands < 4096 → st.due ≡ 0 → get_or s st.at 0 ≡ 5 → st.at + 103 ≤ length s → (u16_at s (st.at + 101) ≡ 0 → ⊥) → M (Ok (Next (drawn st 103 (u16_at s (st.at + 101)))))
+  pub glyph : st.glyphs < 16384 → 0 < st.due → st.at + 45 ≤ length s → (st.due ≡ 1 → ⊥) → (own : Rect) → try_transform (transform_of (command_at s st.run)) (rect_at s (st.at + 13)) ≡ Some own → M (Ok (Next (glyph_read st (rect_at s (st.at + 13)))))
+  pub last : st.glyphs < 16384 → st.at + 45 ≤ length s → st.due ≡ 1 → (own : Rect) → try_transform (transform_of (command_at s st.run)) (rect_at s (st.at + 13)) ≡ Some own → (box : Rect) → try_transform (transform_of (command_at s st.run)) (unite st (rect_at s (st.at + 13))) ≡ Some box → M (Ok (Draw (glyph_read st (rect_at s (st.at + 13))) st.run box))
 
-module _ (s : List ℕ) (st : Cursor) (M : Step → Type 0) (cases : Cases s st M) where
-  on_box_lem : (r : Option Rect) (k : Rect → Step) → ((box : Rect) → r ≡ Some box → M (k box)) → M (on_box st.at r k)
+module _ (s : List ℕ) (st : Cursor) (M : Result Step Refusal → Type 0) (cases : Cases s st M) where
+  on_box_lem : (r : Option Rect) (k : Rect → Result Step Refusal) → ((box : Rect) → r ≡ Some box → M (k box)) → M (on_box st.at r k)
   on_box_lem (Some box) k h = h box refl
-  on_box_lem None k h = cases.refused 9 st.at
+  on_box_lem None k h = cases.refused UnboundedBox st.at
 
   of_clip : st.due ≡ 0 → M (clip_step s st)
   unfolding clip_step
   of_clip due =
-      pick_cases M (leb 32 st.depth) _ _ (λ e. cases.refused 6 st.at)
-      λ e. pick_cases M (leb 4096 st.clips) _ _ (λ e. cases.refused 6 st.at) (λ f. cases.clip (leb-false 32 st.depth e) (leb-false 4096 st.clips f) due)
+      pick_cases M (leb 32 st.depth) _ _ (λ e. cases.refused TooMany st.at)
+      λ e. pick_cases M (leb 4096 st.clips) _ _ (λ e. cases.refused TooMany st.at) (λ f. cases.clip (leb-false 32 st.depth e) (leb-false 4096 st.clips f) due)
 
   of_pop : st.due ≡ 0 → M (pop_step st)
   unfolding pop_step
-  of_pop due = pick_cases M (eqb st.depth 0) _ _ (λ e. cases.refused 5 st.at) (λ e. cases.pop (eqb-false st.depth 0 e) due)
+  of_pop due = pick_cases M (eqb st.depth 0) _ _ (λ e. cases.refused NoOpenClip st.at) (λ e. cases.pop (eqb-false st.depth 0 e) due)
 
   of_draw : (len : ℕ) → st.due ≡ 0 → Alone s st.at → M (draw_step s st len)
   unfolding draw_step
   of_draw len due alone =
-      pick_cases M (leb 4096 st.commands) _ _ (λ e. cases.refused 6 st.at)
-      λ e. on_box_lem (try_with (command_at s st.at) st.united) (λ box. Draw (drawn st len 0) st.at box) (λ box f. cases.draw len (leb-false 4096 st.commands e) due alone box f)
+      pick_cases M (leb 4096 st.commands) _ _ (λ e. cases.refused TooMany st.at)
+      λ e. on_box_lem (try_with (command_at s st.at) st.united) (λ box. Ok (Draw (drawn st len 0) st.at box)) (λ box f. cases.draw len (leb-false 4096 st.commands e) due alone box f)
 
   of_run : st.due ≡ 0 → get_or s st.at 0 ≡ 5 → st.at + 103 ≤ length s → M (run_step s st)
   unfolding run_step
   of_run due is fits =
       pick_cases M (eqb (u16_at s (st.at + 101)) 0) _ _ (λ e. of_draw 103 due record { fits = subst (λ (y : ℕ). st.at + length_of y ≤ length s) (sym is) (omega (arith, length_run)); none = run_count s st.at is fits ∙ eqb-true (u16_at s (st.at + 101)) 0 e })
-      λ z. pick_cases M (leb 4096 st.commands) _ _ (λ e. cases.refused 6 st.at) (λ e. cases.run (leb-false 4096 st.commands e) due is fits (eqb-false (u16_at s (st.at + 101)) 0 z))
+      λ z. pick_cases M (leb 4096 st.commands) _ _ (λ e. cases.refused TooMany st.at) (λ e. cases.run (leb-false 4096 st.commands e) due is fits (eqb-false (u16_at s (st.at + 101)) 0 z))
 
   of_last : st.glyphs < 16384 → 0 < st.due → st.at + 45 ≤ length s → (own : Rect) → try_transform (transform_of (command_at s st.run)) (rect_at s (st.at + 13)) ≡ Some own → M (last_step s st (rect_at s (st.at + 13)))
   unfolding last_step
   of_last h due fits own o =
       pick_cases M (eqb st.due 1) _ _
-      (λ e. on_box_lem (try_transform (transform_of (command_at s st.run)) (unite st (rect_at s (st.at + 13)))) (λ box. Draw (glyph_read st (rect_at s (st.at + 13))) st.run box) (λ box f. cases.last h fits (eqb-true st.due 1 e) own o box f))
+      (λ e. on_box_lem (try_transform (transform_of (command_at s st.run)) (unite st (rect_at s (st.at + 13)))) (λ box. Ok (Draw (glyph_read st (rect_at s (st.at + 13))) st.run box)) (λ box f. cases.last h fits (eqb-true st.due 1 e) own o box f))
       (λ e. cases.glyph h due fits (eqb-false st.due 1 e) own o)
 
   of_glyph : 0 < st.due → st.at + 45 ≤ length s → M (glyph_step s st)
   unfolding glyph_step
   of_glyph due fits =
-      pick_cases M (leb 16384 st.glyphs) _ _ (λ e. cases.refused 6 st.at)
+      pick_cases M (leb 16384 st.glyphs) _ _ (λ e. cases.refused TooMany st.at)
       λ e. on_box_lem (try_transform (transform_of (command_at s st.run)) (rect_at s (st.at + 13))) (λ own. last_step s st (rect_at s (st.at + 13))) (λ own o. of_last (leb-false 16384 st.glyphs e) due fits own o)
 
   of_effect : (b : ℕ) → get_or s st.at 0 ≡ b → due_fits b st.due ≡ true → st.at + length_of b ≤ length s → M (effect_of s st b)
@@ -128,33 +131,33 @@ module _ (s : List ℕ) (st : Cursor) (M : Step → Type 0) (cases : Cases s st 
       pick_cases M (ltb st.at (length s)) _ _
       (λ a. pick_cases M (leb b 7) _ _
       (λ e. pick_cases M (due_fits b st.due) _ _
-      (λ d. pick_cases M (ltb (length s - st.at) (length_of b)) _ _ (λ e. cases.refused 2 st.at)
-      (λ l. pick_cases M (eqb (operands_at s st.at b) 0) _ _ (λ e. of_effect b refl d (omega (arith, ltb-true st.at (length s) a, ltb-false (length s - st.at) (length_of b) l))) (λ e. cases.refused (operands_at s st.at b) st.at)))
-      (λ e. cases.refused 7 st.at))
-      (λ e. cases.refused 3 st.at))
-      (λ e. cases.refused 2 (length s))
+      (λ d. pick_cases M (ltb (length s - st.at) (length_of b)) _ _ (λ e. cases.refused CutOff st.at)
+      (λ l. operands_cases M st.at (operands_at s st.at b) _ (λ e. of_effect b refl d (omega (arith, ltb-true st.at (length s) a, ltb-false (length s - st.at) (length_of b) l))) (λ f e. cases.refused f st.at)))
+      (λ e. cases.refused GlyphOrder st.at))
+      (λ e. cases.refused UnknownCode st.at))
+      (λ e. cases.refused CutOff (length s))
     where
       b : ℕ
       b = get_or s st.at 0
 
 -- ---- reading
 -- the cursor that a step goes on with has one property, the one that it ends with another
-abbrev pub Kept : (Cursor → Type 0) → (Cursor → Type 0) → Step → Type 0
-Kept P Q (Next t) = P t
-Kept P Q (Clip t box) = P t
-Kept P Q (Pop t) = P t
-Kept P Q (Draw t at box) = P t
-Kept P Q (End t) = Q t
-Kept P Q (Refused n p) = Unit {0}
+abbrev pub Kept : (Cursor → Type 0) → (Cursor → Type 0) → Result Step Refusal → Type 0
+Kept P Q (Ok (Next t)) = P t
+Kept P Q (Ok (Clip t box)) = P t
+Kept P Q (Ok (Pop t)) = P t
+Kept P Q (Ok (Draw t at box)) = P t
+Kept P Q (Ok (End t)) = Q t
+Kept P Q (Err why) = Unit {0}
 
 module _ (P Q : Cursor → Type 0) where
-  on_step_lem : (x : Step) (k : Cursor → Answer) → Kept P Q x → ((t : Cursor) → P t → WhereRead Q (k t)) → WhereRead Q (on_step x k)
-  on_step_lem (Next t) k h f = f t h
-  on_step_lem (Clip t box) k h f = f t h
-  on_step_lem (Pop t) k h f = f t h
-  on_step_lem (Draw t at box) k h f = f t h
-  on_step_lem (End t) k h f = h
-  on_step_lem (Refused n p) k h f = tt
+  on_step_lem : (x : Result Step Refusal) (k : Cursor → Result Cursor Refusal) → Kept P Q x → ((t : Cursor) → P t → WhereRead Q (k t)) → WhereRead Q (on_step x k)
+  on_step_lem (Ok (Next t)) k h f = f t h
+  on_step_lem (Ok (Clip t box)) k h f = f t h
+  on_step_lem (Ok (Pop t)) k h f = f t h
+  on_step_lem (Ok (Draw t at box)) k h f = f t h
+  on_step_lem (Ok (End t)) k h f = h
+  on_step_lem (Err why) k h f = tt
 
   pub read_keeps : (s : List ℕ) → ((st : Cursor) → P st → Kept P Q (step_at s st)) → (n : ℕ) (st : Cursor) → P st → WhereRead Q (read_from n s st)
   unfolding read_from
@@ -163,13 +166,13 @@ module _ (P Q : Cursor → Type 0) where
 
 -- ---- the list
 module _ (P : Cursor → Type 0) (L : Listing → Type 0) where
-  next_keeps : (x : Step) (l : Listing) (k : Cursor → Listing) → Kept P (λ t. Unit {0}) x → L l → ((t : Cursor) → P t → L (k t)) → L (on_next x l k)
-  next_keeps (Next t) l k h o f = f t h
-  next_keeps (Clip t box) l k h o f = f t h
-  next_keeps (Pop t) l k h o f = f t h
-  next_keeps (Draw t at box) l k h o f = f t h
-  next_keeps (End t) l k h o f = o
-  next_keeps (Refused n p) l k h o f = o
+  next_keeps : (x : Result Step Refusal) (l : Listing) (k : Cursor → Listing) → Kept P (λ t. Unit {0}) x → L l → ((t : Cursor) → P t → L (k t)) → L (on_next x l k)
+  next_keeps (Ok (Next t)) l k h o f = f t h
+  next_keeps (Ok (Clip t box)) l k h o f = f t h
+  next_keeps (Ok (Pop t)) l k h o f = f t h
+  next_keeps (Ok (Draw t at box)) l k h o f = f t h
+  next_keeps (Ok (End t)) l k h o f = o
+  next_keeps (Err why) l k h o f = o
 
   pub list_keeps : (s : List ℕ) → ((st : Cursor) → P st → Kept P (λ t. Unit {0}) (step_at s st)) → ((st : Cursor) (l : Listing) → P st → L l → L (noted s l (step_at s st))) → (n : ℕ) (st : Cursor) (l : Listing) → P st → L l → L (list_from n s st l)
   unfolding list_from

@@ -1,13 +1,12 @@
 -- The words of the laws of reading. Document 01's number 6: "33rd open clip, 4,097th clip pushed", "4,097th drawing command",
 -- "16,385th glyph of a frame".
-use Rattle.std.specs.Prelude.{List, [], ◌∷◌, ℕ, zero, suc, ◌+◌, ◌*◌, ◌≤◌, ◌<◌, length, get_or}
+use Rattle.refusals.specs.declared.Refusal.{Refusal}
+use Rattle.std.specs.Prelude.{List, [], ◌∷◌, ℕ, zero, suc, ◌+◌, ◌*◌, ◌≤◌, ◌<◌, length, get_or, Result, Ok, Err}
 use Rattle.commands.specs.Bounds.{glyph_count}
 use Rattle.strip_format.specs.Format.{length_of, command_at}
 use Rattle.strip.specs.declared.Cursor.{Cursor}
 use Rattle.strip.specs.declared.Step.{Step}
-use Rattle.strip.specs.declared.Step.TheVariants.{Next, Clip, Pop, Draw, End, Refused as TurnedAway}
-use Rattle.strip.specs.declared.Answer.{Answer}
-use Rattle.strip.specs.declared.Answer.TheVariants.{Read, Refused}
+use Rattle.strip.specs.declared.Step.TheVariants.{Next, Clip, Pop, Draw, End}
 use Rattle.strip.specs.Steps.{start_at, step_at}
 
 -- a cursor whose counts no number 6 forbids
@@ -18,9 +17,9 @@ pub record Within (st : Cursor) : Type 0 where
   pub glyphs : st.glyphs ≤ 16384
 
 -- where a strip is read, its cursor has a property
-abbrev pub WhereRead : (Cursor → Type 0) → Answer → Type 0
-WhereRead P (Read t) = P t
-WhereRead P (Refused n p) = Unit {0}
+abbrev pub WhereRead : (Cursor → Type 0) → Result Cursor Refusal → Type 0
+WhereRead P (Ok t) = P t
+WhereRead P (Err why) = Unit {0}
 
 -- the cursor behind the END of a strip that begins at an offset, in n bytes
 pub record Passed (at n : ℕ) (t : Cursor) : Type 0 where
@@ -33,13 +32,13 @@ pub record Whole (s : List ℕ) (at : ℕ) : Type 0 where
   pub glyphs : 0 < glyph_count (command_at s at) → at + 103 + 45 * glyph_count (command_at s at) ≤ length s
 
 -- where the drawing commands of a strip begin, in the order in which they are listed: a run is listed at its last GLYPH
-abbrev pub on_offset : Step → (Cursor → List ℕ) → List ℕ
-on_offset (Next t) k = k t
-on_offset (Clip t box) k = k t
-on_offset (Pop t) k = k t
-on_offset (Draw t at box) k = at ∷ k t
-on_offset (End t) k = []
-on_offset (TurnedAway n p) k = []
+abbrev pub on_offset : Result Step Refusal → (Cursor → List ℕ) → List ℕ
+on_offset (Ok (Next t)) k = k t
+on_offset (Ok (Clip t box)) k = k t
+on_offset (Ok (Pop t)) k = k t
+on_offset (Ok (Draw t at box)) k = at ∷ k t
+on_offset (Ok (End t)) k = []
+on_offset (Err why) k = []
 
 unfoldable pub offsets_from : ℕ → List ℕ → Cursor → List ℕ
 offsets_from zero s st = []

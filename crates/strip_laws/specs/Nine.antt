@@ -1,6 +1,6 @@
 -- Number 9 at a step, in the table's words: of which boxes, and that no number which is checked before it is given. That a step gives 9 exactly
 -- then, and at the command, is a law (`given_nine`, `nine_given`).
-use Rattle.std.specs.Prelude.{◌≡◌, true, List, [], ◌⊎◌, ℕ, ◌+◌, ◌≤◌, ◌<◌, length, get_or}
+use Rattle.std.specs.Prelude.{◌≡◌, true, List, [], ◌⊎◌, ℕ, ◌+◌, ◌≤◌, ◌<◌, length, get_or, Ok}
 use Rattle.affine.specs.Unbounded.{UnboundedBox}
 use Rattle.commands.specs.Bounds.{transform_of, glyph_count, local_bounds}
 use Rattle.strip_format.specs.Format.{length_of, rect_at, command_at}
@@ -24,7 +24,7 @@ pub record NoneBefore (s : List ℕ) (st : Cursor) : Type 0 where
   -- 2: "fewer bytes than the command's length"
   pub room : st.at + length_of (byte_at s st) ≤ length s
   -- 3: "join or cap code above 2"; 4: "a float is infinite or NaN"
-  pub operands : operands_at s st.at (byte_at s st) ≡ 0
+  pub operands : operands_at s st.at (byte_at s st) ≡ Ok tt
   -- 6: "4,097th drawing command or 16,385th glyph of a frame"
   pub commands : Draws (byte_at s st) → st.commands < 4096
   pub glyphs : byte_at s st ≡ 6 → st.glyphs < 16384

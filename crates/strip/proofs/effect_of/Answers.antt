@@ -1,3 +1,4 @@
+use Rattle.std.proofs.lemmas.Result.{err_from_is_err_and}
 use mathlib.Core.Path.{sym, ap, subst, ◌∙◌}
 use Rattle.strip.proofs.Places.{clip_known, glyph_known}
 use Rattle.strip.proofs.Effects.{due_glyph, effect_end, effect_clip, effect_pop, effect_glyph}
@@ -30,11 +31,17 @@ draw_or_run-requires-in_default c = record { stands = c.requires.0; draws = (c.i
 pub returns-in-0 : goal.returns-in-0
 returns-in-0 c = effect_end _ _ _ c.in-0.is
 
-pub returns-in-1 : goal.returns-in-1
-returns-in-1 c = c.clip.ensures ∙ effect_clip _ _ _ c.in-1.is
+pub returns-in_ok-clip-in-1 : goal.returns-in_ok-clip-in-1
+returns-in_ok-clip-in-1 c = c.in_ok-clip-in-1.ensures ∙ effect_clip _ _ _ c.in-1.is
 
-pub returns-in-2 : goal.returns-in-2
-returns-in-2 c = c.pop.ensures ∙ effect_pop _ _ _ c.in-2.is
+pub returns-in_err-clip-in-1 : goal.returns-in_err-clip-in-1
+returns-in_err-clip-in-1 c = let p = err_from_is_err_and c.from_residual.result c.from_residual.ensures.1 in rw (p.1, p.2) (c.in_err-clip-in-1.ensures ∙ effect_clip _ _ _ c.in-1.is)
+
+pub returns-in_ok-pop-in-2 : goal.returns-in_ok-pop-in-2
+returns-in_ok-pop-in-2 c = c.in_ok-pop-in-2.ensures ∙ effect_pop _ _ _ c.in-2.is
+
+pub returns-in_err-pop-in-2 : goal.returns-in_err-pop-in-2
+returns-in_err-pop-in-2 c = let p = err_from_is_err_and c.from_residual-in_err-pop-in-2.result c.from_residual-in_err-pop-in-2.ensures.1 in rw (p.1, p.2) (c.in_err-pop-in-2.ensures ∙ effect_pop _ _ _ c.in-2.is)
 
 pub returns-in-3 : goal.returns-in-3
 returns-in-3 c = c.draw_or_run.ensures ∙ ap (effect_of _ _) (sym c.in-3.is)

@@ -1,4 +1,5 @@
 -- `strip::pass_glyphs` meets its contract: first the steps of `pass_near`, then a step for each turn. Assumes nothing.
+use Rattle.std.specs.Prelude.{Ok}
 use Rattle.strip.proofs.Settled.{passes_none, passes_one, passes_both, goes_on, transform_is, glyph_read_lem}
 use Rattle.strip.specs.declared.Step.TheVariants.{Next}
 use Rattle.strip.specs.declared.Cursor.{Cursor}
@@ -29,7 +30,7 @@ pub loop-transform-smaller : goal.loop-transform-smaller
 loop-transform-smaller c = omega (arith, (c.glyph_goes_on.ensures c.loop-transform-test.true).due.more, ap (λ (x : Cursor). x.due) c.past_glyph-next.ensures)
 
 pub loop-transform-preserved : goal.loop-transform-preserved
-loop-transform-preserved c = (c.loop-transform.invariant.0, ap (λ (x : Cursor). x.run) c.past_glyph-next.ensures ∙ c.loop-transform.invariant.1, passes_one _ _ _ _ c.loop-transform.invariant.2 (goes_on _ _ _ (transform_is _ _ _ c.loop-transform.next c.loop-transform.invariant.0 c.loop-transform.invariant.1) (c.glyph_goes_on.ensures c.loop-transform-test.true) ∙ ap Next (sym (glyph_read_lem _ _ _ _ c.rect_finite-bounds.ensures c.past_glyph-next.ensures))))
+loop-transform-preserved c = (c.loop-transform.invariant.0, ap (λ (x : Cursor). x.run) c.past_glyph-next.ensures ∙ c.loop-transform.invariant.1, passes_one _ _ _ _ c.loop-transform.invariant.2 (goes_on _ _ _ (transform_is _ _ _ c.loop-transform.next c.loop-transform.invariant.0 c.loop-transform.invariant.1) (c.glyph_goes_on.ensures c.loop-transform-test.true) ∙ ap (λ (x : Cursor). Ok (Next x)) (sym (glyph_read_lem _ _ _ _ c.rect_finite-bounds.ensures c.past_glyph-next.ensures))))
 
 pub returns : goal.returns
 returns c = passes_both _ _ _ _ c.pass_near-near.ensures.1 c.loop-transform.invariant.2

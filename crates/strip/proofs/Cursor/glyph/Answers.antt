@@ -1,16 +1,17 @@
+use Rattle.std.specs.Prelude.{Err}
 use Rattle.strip.proofs.Settled.{last_settles, corners_finite, corners_not_finite}
 use Rattle.strip.proofs.Effects.{glyph_many}
-use Rattle.strip.specs.Effects.{settled}
+use Rattle.strip.specs.Effects.{settle}
 use Rattle.affine.specs.Affines.{finite_corners}
 use Rattle.affine.specs.declared.Affine.{Affine}
 use mathlib.Core.Path.{sym, ap, ◌∙◌}
 use Rattle.strip.proofs.Cursor.glyph.Goals as goal
 
 pub returns-then-self-ge16384 : goal.returns-then-self-ge16384
-returns-then-self-ge16384 c = glyph_many _ _ c.if-self-ge16384.true
+returns-then-self-ge16384 c = ap Err c.at.ensures ∙ glyph_many _ _ c.if-self-ge16384.true
 
 pub returns-then-finite_corners : goal.returns-then-finite_corners
-returns-then-finite_corners c = ap settled c.last.ensures ∙ last_settles _ _ _ _ c.transform_at-transform.ensures ∙ corners_finite _ _ _ c.rect_finite-bounds.ensures c.if-self-ge16384.false (ap (λ (t : Affine). finite_corners t c.rect_finite-bounds.result) (sym c.transform_at-transform.ensures) ∙ sym c.finite_corners.ensures ∙ c.if-finite_corners.true)
+returns-then-finite_corners c = ap settle c.last.ensures ∙ last_settles _ _ _ _ c.transform_at-transform.ensures ∙ corners_finite _ _ _ c.rect_finite-bounds.ensures c.if-self-ge16384.false (ap (λ (t : Affine). finite_corners t c.rect_finite-bounds.result) (sym c.transform_at-transform.ensures) ∙ sym c.finite_corners.ensures ∙ c.if-finite_corners.true)
 
 pub returns-else-finite_corners : goal.returns-else-finite_corners
-returns-else-finite_corners c = corners_not_finite _ _ _ c.rect_finite-bounds.ensures c.if-self-ge16384.false (ap (λ (t : Affine). finite_corners t c.rect_finite-bounds.result) (sym c.transform_at-transform.ensures) ∙ sym c.finite_corners.ensures ∙ c.if-finite_corners.false)
+returns-else-finite_corners c = ap Err c.at-else-finite_corners.ensures ∙ corners_not_finite _ _ _ c.rect_finite-bounds.ensures c.if-self-ge16384.false (ap (λ (t : Affine). finite_corners t c.rect_finite-bounds.result) (sym c.transform_at-transform.ensures) ∙ sym c.finite_corners.ensures ∙ c.if-finite_corners.false)
