@@ -8,8 +8,9 @@ ghost use Rattle.strip.specs.Reading.{read_strip};
 ghost use Rattle.recording.specs.Recorded.{space, SameLengths, Records, RecordsFirst, RecordsNew, RecordsBoth};
 
 use display_list::ListState;
-use frame::{First, Pair};
-use strip::{Answer, Cursor, Step};
+use frame::Strips;
+use refusals::Refusal;
+use strip::{Cursor, Step};
 
 // The strip at an offset, recorded behind so many clips and commands.
 fn record_strip(
@@ -21,7 +22,7 @@ fn record_strip(
     below: &mut [u64],
     items: &mut [u64],
     item_boxes: &mut [f64],
-) -> Answer
+) -> Result<Cursor, Refusal>
     requires { (clips ≤ 4096) × (commands ≤ 4096) }
     ensures answer { result ≡ read_strip s.now at }
     ensures lengths { SameLengths (space boxes.old below.old items.old item_boxes.old) (space boxes.new below.new items.new item_boxes.new) }
@@ -35,7 +36,7 @@ fn record_strip(
         commands,
     };
     loop {
-        match strip::take_step(s, st) {
+        match strip::take_step(s, st)? {
             Step::Next(t) => {
                 st = strip::pass_glyphs(s, t);
             }
@@ -53,10 +54,7 @@ fn record_strip(
                 list = list.push(items, item_boxes, offset, bounds);
             }
             Step::End(t) => {
-                return Answer::Read(t);
-            }
-            Step::Refused(number, position) => {
-                return Answer::Refused(number, position);
+                return Ok(t);
             }
         }
     }
@@ -69,21 +67,13 @@ pub fn record_first(
     below: &mut [u64],
     items: &mut [u64],
     item_boxes: &mut [f64],
-) -> First
+) -> Result<Cursor, Refusal>
     ensures answer { result ≡ Frame.first_of s.now }
     ensures lengths { SameLengths (space boxes.old below.old items.old item_boxes.old) (space boxes.new below.new items.new item_boxes.new) }
     ensures lists { RecordsFirst s.now (space boxes.new below.new items.new item_boxes.new) result }
 {
-    match record_strip(s, 12, 0, 0, boxes, below, items, item_boxes) {
-        Answer::Read(new) => {
-            let end = new.at;
-            if end < s.len() {
-                return First::NotOne(8, end);
-            }
-            First::One(new)
-        }
-        Answer::Refused(number, position) => First::NotOne(number, position),
-    }
+    let new = record_strip(s, 12, 0, 0, boxes, below, items, item_boxes)?;
+    frame::at_end(s, new)
 }
 
 // The new strip, recorded behind the old one, and nothing behind it.
@@ -94,7 +84,7 @@ fn record_new(
     below: &mut [u64],
     items: &mut [u64],
     item_boxes: &mut [f64],
-) -> Pair
+) -> Result<Strips, Refusal>
     requires { (old.clips ≤ 4096) × (old.commands ≤ 4096) }
     ensures answer { result ≡ Frame.then_new s.now old (read_strip s.now old.at) }
     ensures lengths { SameLengths (space boxes.old below.old items.old item_boxes.old) (space boxes.new below.new items.new item_boxes.new) }
@@ -103,16 +93,9 @@ fn record_new(
     let from = old.at;
     let clips = old.clips as usize;
     let commands = old.commands as usize;
-    match record_strip(s, from, clips, commands, boxes, below, items, item_boxes) {
-        Answer::Read(new) => {
-            let end = new.at;
-            if end < s.len() {
-                return Pair::NotBoth(8, end);
-            }
-            Pair::Both(old, new)
-        }
-        Answer::Refused(number, position) => Pair::NotBoth(number, position),
-    }
+    let last = record_strip(s, from, clips, commands, boxes, below, items, item_boxes)?;
+    let new = frame::at_end(s, last)?;
+    Ok(Strips { old, new })
 }
 
 // The two strips behind the header, and nothing behind them.
@@ -122,13 +105,11 @@ pub fn record_both(
     below: &mut [u64],
     items: &mut [u64],
     item_boxes: &mut [f64],
-) -> Pair
+) -> Result<Strips, Refusal>
     ensures answer { result ≡ Frame.both_of s.now }
     ensures lengths { SameLengths (space boxes.old below.old items.old item_boxes.old) (space boxes.new below.new items.new item_boxes.new) }
     ensures lists { RecordsBoth s.now (space boxes.new below.new items.new item_boxes.new) result }
 {
-    match record_strip(s, 12, 0, 0, boxes, below, items, item_boxes) {
-        Answer::Read(old) => record_new(s, old, boxes, below, items, item_boxes),
-        Answer::Refused(number, position) => Pair::NotBoth(number, position),
-    }
+    let old = record_strip(s, 12, 0, 0, boxes, below, items, item_boxes)?;
+    record_new(s, old, boxes, below, items, item_boxes)
 }

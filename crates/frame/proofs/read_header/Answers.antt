@@ -1,0 +1,4 @@
+use Rattle.frame.proofs.read_header.Goals as goal
+
+pub returns : goal.returns
+returns c = ?
