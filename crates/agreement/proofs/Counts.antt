@@ -14,15 +14,9 @@ use Rattle.operand_equality.specs.Operands.{equal_glyph}
 use Rattle.operand_equality.proofs.Compared.{glyphs_told}
 use Rattle.equality.proofs.Compared.{equal_parts}
 use Rattle.strip.specs.declared.Cursor.{Cursor}
-use Rattle.strip.specs.declared.Answer.{Answer}
-use Rattle.strip.specs.declared.Answer.TheVariants.{Read, Refused}
 use Rattle.strip.specs.Reading.{read_strip, commands_of}
 use Rattle.strip_laws.specs.Limits.{WhereRead}
 use Rattle.strip_laws.proofs.Counts.{glyph_total, Counted, strip_counted}
-use Rattle.frame.specs.declared.First.{First}
-use Rattle.frame.specs.declared.First.TheVariants.{One, NotOne}
-use Rattle.frame.specs.declared.Pair.{Pair}
-use Rattle.frame.specs.declared.Pair.TheVariants.{Both, NotBoth}
 use Rattle.frame.specs.Frame.{ended, then_new, then_end, then_strips, first_of, both_of}
 use Rattle.plans.specs.Space.{Lent}
 use Rattle.plans.specs.Drafts.{Items}
@@ -32,33 +26,33 @@ use Rattle.agreement.specs.Plans.{FirstAgree, NextAgree}
 use Rattle.agreement.proofs.Agreement.{agree_parts}
 
 -- ---- what the cursors of an input have counted
-abbrev WhereOne : List ℕ → First → Type 0
-WhereOne s (One c) = Counted (commands_of s 12) c
-WhereOne s (NotOne n p) = Unit {0}
+abbrev WhereOne : List ℕ → Result Cursor Refusal → Type 0
+WhereOne s (Ok c) = Counted (commands_of s 12) c
+WhereOne s (Err why) = Unit {0}
 
-first_counted : (s : List ℕ) (c : Cursor) → first_of s ≡ One c → Counted (commands_of s 12) c
+first_counted : (s : List ℕ) (c : Cursor) → first_of s ≡ Ok c → Counted (commands_of s 12) c
 unfolding first_of
 first_counted s c e = subst (WhereOne s) e (go (read_strip s 12) (strip_counted s 12))
   where
-    go : (x : Answer) → WhereRead (Counted (commands_of s 12)) x → WhereOne s (then_end s x)
-    go (Read c) h = pick_cases (WhereOne s) (ltb c.at (length s)) (NotOne 8 c.at) (One c) (λ f. tt) (λ f. h)
-    go (Refused n p) h = tt
+    go : (x : Result Cursor Refusal) → WhereRead (Counted (commands_of s 12)) x → WhereOne s (then_end s x)
+    go (Ok c) h = pick_cases (WhereOne s) (ltb c.at (length s)) (refused TrailingByte c.at) (Ok c) (λ f. tt) (λ f. h)
+    go (Err why) h = tt
 
-abbrev WhereBoth : List ℕ → Pair → Type 0
-WhereBoth s (Both old new) = Counted (commands_of s 12) old × Counted (commands_of s old.at) new
-WhereBoth s (NotBoth n p) = Unit {0}
+abbrev WhereBoth : List ℕ → Result Strips Refusal → Type 0
+WhereBoth s (Ok both) = Counted (commands_of s 12) both.old × Counted (commands_of s both.old.at) both.new
+WhereBoth s (Err why) = Unit {0}
 
-both_counted : (s : List ℕ) (old new : Cursor) → both_of s ≡ Both old new → Counted (commands_of s 12) old × Counted (commands_of s old.at) new
+both_counted : (s : List ℕ) (old new : Cursor) → both_of s ≡ Ok (strips old new) → Counted (commands_of s 12) old × Counted (commands_of s old.at) new
 unfolding both_of ended
 both_counted s old new e = subst (WhereBoth s) e (go (read_strip s 12) (strip_counted s 12))
   where
-    behind : (old : Cursor) → Counted (commands_of s 12) old → (x : Answer) → WhereRead (Counted (commands_of s old.at)) x → WhereBoth s (then_new s old x)
-    behind old h (Read new) k = pick_cases (WhereBoth s) (ltb new.at (length s)) (NotBoth 8 new.at) (Both old new) (λ f. tt) (λ f. (h, k))
-    behind old h (Refused n p) k = tt
+    behind : (old : Cursor) → Counted (commands_of s 12) old → (x : Result Cursor Refusal) → WhereRead (Counted (commands_of s old.at)) x → WhereBoth s (then_new s old x)
+    behind old h (Ok new) k = pick_cases (WhereBoth s) (ltb new.at (length s)) (refused TrailingByte new.at) (Ok (strips old new)) (λ f. tt) (λ f. (h, k))
+    behind old h (Err why) k = tt
 
-    go : (x : Answer) → WhereRead (Counted (commands_of s 12)) x → WhereBoth s (then_strips s x)
-    go (Read old) h = behind old h (read_strip s old.at) (strip_counted s old.at)
-    go (Refused n p) h = tt
+    go : (x : Result Cursor Refusal) → WhereRead (Counted (commands_of s 12)) x → WhereBoth s (then_strips s x)
+    go (Ok old) h = behind old h (read_strip s old.at) (strip_counted s old.at)
+    go (Err why) h = tt
 
 -- ---- the counts of lists that agree
 glyphs_same : (cs ds : List Command) → AgreeAll cs ds → glyph_total cs ≡ glyph_total ds

@@ -15,12 +15,8 @@ use Rattle.scheduler.specs.Schedule as Schedule
 use Rattle.strip.specs.declared.Cursor.{Cursor}
 use Rattle.strip.specs.Reading.{commands_of}
 use Rattle.frame.specs.declared.Header.{Header}
-use Rattle.frame.specs.declared.Header.TheVariants.{Sizes, BadHeader}
-use Rattle.frame.specs.declared.First.TheVariants.{One}
-use Rattle.frame.specs.declared.Pair.TheVariants.{Both}
 use Rattle.frame.specs.Frame.{header_of, first_of, both_of}
 use Rattle.plans.specs.declared.Plan.{Plan}
-use Rattle.plans.specs.declared.Plan.TheVariants.{Planned, Refused}
 use Rattle.plans.specs.Drafts.{Draft, draft, Items, Outcome, drafted, screen_rect, on_first, on_both, on_header, first_outcome, next_outcome}
 use Rattle.plans.specs.Space.{Lent}
 use Rattle.plans.specs.Answers.{items_fit, answer_of, rect_words, region_words, index_words, published}
@@ -42,7 +38,7 @@ drafts_plan z i j d e s r = record {
 module _ (z : Lent) (f g : ℕ → ℕ → ℕ → Outcome) (same : (w h b : ℕ) → SamePlan z (f w h b) (g w h b)) where
   on_header_lem : (x : Header) → SamePlan z (on_header x f) (on_header x g)
   on_header_lem (Sizes w h b) = same w h b
-  on_header_lem (BadHeader n) = record { answer = refl; regions = refl; index = refl; rects = place_none Same }
+  on_header_lem (Err why) = record { answer = refl; regions = refl; index = refl; rects = place_none Same }
 
   on_headers : (x y : Header) → x ≡ y → SamePlan z (on_header x f) (on_header y g)
   on_headers x y e = subst (λ y. SamePlan z (on_header x f) (on_header y g)) e (on_header_lem x)
@@ -53,7 +49,7 @@ module _ (z : Lent) (s t : List ℕ) where
   unfolding first_outcome
   first_plans c d a = on_headers z (λ w h b. on_first w h b s (first_of s)) (λ w h b. on_first w h b t (first_of t)) (λ w h b. rw (a.read, a.other_read) (drafts w h b)) (header_of s) (header_of t) a.sizes
     where
-      drafts : (w h b : ℕ) → SamePlan z (on_first w h b s (One c)) (on_first w h b t (One d))
+      drafts : (w h b : ℕ) → SamePlan z (on_first w h b s (Ok c)) (on_first w h b t (Ok d))
       drafts w h b =
           let r = screen_rect w h ∷ [] in
           drafts_plan z (items_of c) (items_of d) (draft w h b r (commands_of s 12)) (draft w h b r (commands_of t 12))
@@ -64,7 +60,7 @@ module _ (z : Lent) (s t : List ℕ) where
   unfolding next_outcome
   next_plans old new old' new' a = on_headers z (λ w h b. on_both w h b s (both_of s)) (λ w h b. on_both w h b t (both_of t)) (λ w h b. rw (a.read, a.other_read) (drafts w h b)) (header_of s) (header_of t) a.sizes
     where
-      drafts : (w h b : ℕ) → SamePlan z (on_both w h b s (Both old new)) (on_both w h b t (Both old' new'))
+      drafts : (w h b : ℕ) → SamePlan z (on_both w h b s (Ok (strips old new))) (on_both w h b t (Ok (strips old' new')))
       drafts w h b =
           let os = commands_of s 12 in
           let os' = commands_of t 12 in
@@ -93,6 +89,6 @@ module _ (z : Lent) (x y : Outcome) (p : SamePlan z x y) where
       kept : (l : List Float) → ByPlace Same l l
       kept = place_self Same (λ f. inl refl)
 
-      over : (a : Plan) (l m : List Float) → ByPlace Same l m → ByPlace Same (published a l before) (published a m before)
-      over (Planned r w k) l m h = place_append Same l (drop (length l) before) m (drop (length m) before) h (subst (λ n. ByPlace Same (drop (length l) before) (drop n before)) (place_length Same l m h) (kept (drop (length l) before)))
-      over (Refused n q) l m h = kept before
+      over : (a : Result Plan Refusal) (l m : List Float) → ByPlace Same l m → ByPlace Same (published a l before) (published a m before)
+      over (Ok plan) l m h = place_append Same l (drop (length l) before) m (drop (length m) before) h (subst (λ n. ByPlace Same (drop (length l) before) (drop n before)) (place_length Same l m h) (kept (drop (length l) before)))
+      over (Err why) l m h = kept before

@@ -6,8 +6,6 @@ use Rattle.lists.specs.Places.{ByPlace}
 use Rattle.ieee.specs.Values.{Same}
 use Rattle.strip.specs.declared.Cursor.{Cursor}
 use Rattle.strip.specs.Reading.{commands_of}
-use Rattle.frame.specs.declared.First.TheVariants.{One}
-use Rattle.frame.specs.declared.Pair.TheVariants.{Both}
 use Rattle.frame.specs.Frame.{header_of, first_of, both_of}
 use Rattle.plans.specs.Drafts.{Outcome, first_outcome, next_outcome}
 use Rattle.plans.specs.Space.{Lent}
@@ -19,16 +17,16 @@ use Rattle.agreement.specs.Agree.{AgreeAll}
 -- is pushed and popped again takes space, and no command shows it: so it is asked that the clips of both inputs fit the space lent, or those of neither.
 pub record FirstAgree (z : Lent) (s t : List ℕ) (c d : Cursor) : Type 0 where
   pub sizes : header_of s ≡ header_of t
-  pub read : first_of s ≡ One c
-  pub other_read : first_of t ≡ One d
+  pub read : first_of s ≡ Ok c
+  pub other_read : first_of t ≡ Ok d
   pub commands : AgreeAll (commands_of s 12) (commands_of t 12)
   pub clips : leb c.clips z.clips ≡ leb d.clips z.clips
 
 -- two page turns: the commands of the old strips agree, and so do those of the new strips, which begin where the old ones end
 pub record NextAgree (z : Lent) (s t : List ℕ) (old new old' new' : Cursor) : Type 0 where
   pub sizes : header_of s ≡ header_of t
-  pub read : both_of s ≡ Both old new
-  pub other_read : both_of t ≡ Both old' new'
+  pub read : both_of s ≡ Ok (strips old new)
+  pub other_read : both_of t ≡ Ok (strips old' new')
   pub old_commands : AgreeAll (commands_of s 12) (commands_of t 12)
   pub new_commands : AgreeAll (commands_of s old.at) (commands_of t old'.at)
   pub clips : leb (old.clips + new.clips) z.clips ≡ leb (old'.clips + new'.clips) z.clips

@@ -8,6 +8,7 @@ ghost use Rattle.answer_words.specs.Words.{overwritten, answer_words, part_words
 
 use candidates::Lookup;
 use plans::Plan;
+use refusals::Refusal;
 
 // Writes as many of the words as fit to the front of `out`, and leaves the rest of it as it is.
 fn overwrite(words: &[u64], out: &mut [u64])
@@ -21,26 +22,27 @@ fn overwrite(words: &[u64], out: &mut [u64])
 }
 
 // Writes a plan's seven words, and hands back its number.
-pub fn put_plan(plan: Plan, answer: &mut [u64]) -> u32
+pub fn put_plan(plan: Result<Plan, Refusal>, answer: &mut [u64]) -> u32
     ensures number { result ≡ Answers.number_of plan }
     ensures words { answer.new ≡ overwritten (answer_words plan) answer.old }
 {
     match plan {
-        Plan::Planned(rects, count, work) => {
+        Ok(accepted) => {
             let words = [
                 0,
                 0,
-                rects as u64,
-                work.regions_transferred,
-                count as u64,
-                work.pixels_transferred,
-                work.commands_emitted,
+                accepted.rects as u64,
+                accepted.work.regions_transferred,
+                accepted.words as u64,
+                accepted.work.pixels_transferred,
+                accepted.work.commands_emitted,
             ];
             overwrite(&words, answer);
             0
         }
-        Plan::Refused(number, position) => {
-            let words = [number as u64, position as u64, 0, 0, 0, 0, 0];
+        Err(why) => {
+            let number = why.fault.number();
+            let words = [number as u64, why.position as u64, 0, 0, 0, 0, 0];
             overwrite(&words, answer);
             number
         }

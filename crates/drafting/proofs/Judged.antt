@@ -22,7 +22,6 @@ use Rattle.band_index.specs.declared.Built.TheVariants.{Words, Full as NoRoom}
 use Rattle.band_index.specs.Answer.{index_of, answer, stored}
 use Rattle.band_index.proofs.Answers.{stored_front}
 use Rattle.plans.specs.declared.Plan.{Plan}
-use Rattle.plans.specs.declared.Plan.TheVariants.{Planned, Refused}
 use Rattle.plans.specs.Drafts.{Draft}
 use Rattle.plans.specs.Answers.{draft_fits, accepted}
 use Rattle.drafting.specs.Drafted.{draft_in, rooms, judged, indexed, StandsIf}
@@ -60,16 +59,16 @@ module _ (room rects commands regions pixels h b k : ℕ) (ibs : List Float) (ol
   held : new ≡ stored (index_of (drop k ibs) commands h b) old
   held = q ∙ ap (λ (l : List Float). stored (index_of l commands h b) old) whole_part
 
-  abbrev Index : Plan → Type 0
+  abbrev Index : Result Plan Refusal → Type 0
   Index p = (p ≡ indexed (index_of (drop k ibs) commands h b) room rects commands regions pixels) × (new ≡ stored (index_of (drop k ibs) commands h b) old)
 
-  pub index_over : (count : ℕ) → r ≡ Words count → room < count → Index (Refused 10 0)
+  pub index_over : (count : ℕ) → r ≡ Words count → room < count → Index (refused NoRoom 0)
   index_over count q l = let e = words_count ws (length old) count (sym q ∙ answered_is) in (rw (lt-leb (length ws) room (omega arith)), held)
 
-  pub index_fits : (count : ℕ) → r ≡ Words count → count ≤ room → (work : FrameWork) → work ≡ work_of commands regions pixels → Index (Planned rects count work)
-  index_fits count q l work f = let e = words_count ws (length old) count (sym q ∙ answered_is) in (rw (le-leb (length ws) room (omega arith)) (λ i. Planned rects (e i) (f i)), held)
+  pub index_fits : (count : ℕ) → r ≡ Words count → count ≤ room → (work : FrameWork) → work ≡ work_of commands regions pixels → Index (Ok (planned rects count work))
+  index_fits count q l work f = let e = words_count ws (length old) count (sym q ∙ answered_is) in (rw (le-leb (length ws) room (omega arith)) (λ i. Ok (planned rects (e i) (f i))), held)
 
-  pub index_full : r ≡ NoRoom → room ≤ length old → Index (Refused 10 0)
+  pub index_full : r ≡ NoRoom → room ≤ length old → Index (refused NoRoom 0)
   index_full q l = let e = words_many ws (length old) (sym q ∙ answered_is) in (rw (lt-leb (length ws) room (omega arith)), held)
 
 -- ---- the draft
@@ -80,36 +79,36 @@ module _ (w h b : ℕ) (rs : List Float) (n : ℕ) (ibs : List Float) (first com
   abbrev d : Draft
   d = draft_in w h b rs n ibs first commands
 
-  abbrev Judges : Plan → List ℕ → List ℕ → Type 0
+  abbrev Judges : Result Plan Refusal → List ℕ → List ℕ → Type 0
   Judges p gs ws = (p ≡ judged (rooms R G W) (draft_in w h b rs n ibs first commands)) × StandsIf p (draft_in w h b rs n ibs first commands) rs gs ws
 
-  fits_false : draft_fits (rooms R G W) d ≡ false → (gs ws : List ℕ) → Judges (Refused 10 0) gs ws
+  fits_false : draft_fits (rooms R G W) d ≡ false → (gs ws : List ℕ) → Judges (refused NoRoom 0) gs ws
   fits_false e gs ws = (rw e, λ f. untrue f)
 
   and_false : (x y : Bool) → y ≡ false → (x && y) ≡ false
   and_false true y e = e
   and_false false y e = refl
 
-  pub rects_over : R < n → (gs ws : List ℕ) → Judges (Refused 10 0) gs ws
+  pub rects_over : R < n → (gs ws : List ℕ) → Judges (refused NoRoom 0) gs ws
   unfolding draft_fits
   rects_over k = fits_false (rw (lt-leb (length (rects_to rs n)) R (omega (arith, rects_length rs n))))
 
-  regions_many : G < length (schedule w h b (rects_to rs n)) → (gs ws : List ℕ) → Judges (Refused 10 0) gs ws
+  regions_many : G < length (schedule w h b (rects_to rs n)) → (gs ws : List ℕ) → Judges (refused NoRoom 0) gs ws
   unfolding draft_fits
   regions_many k = fits_false (and_false (leb (length (rects_to rs n)) R) _ (rw (lt-leb (length (schedule w h b (rects_to rs n))) G k)))
 
   module _ (gs new : List ℕ) where
-    pub regions_full : 4 * G ≤ length gs → (x : Scheduled) → Answers (schedule w h b (rects_to rs n)) gs x new → x ≡ Full → (xs ws : List ℕ) → Judges (Refused 10 0) xs ws
+    pub regions_full : 4 * G ≤ length gs → (x : Scheduled) → Answers (schedule w h b (rects_to rs n)) gs x new → x ≡ Full → (xs ws : List ℕ) → Judges (refused NoRoom 0) xs ws
     regions_full k x a q = regions_many (omega (arith, refused (schedule w h b (rects_to rs n)) gs new (subst (λ (y : Scheduled). Answers (schedule w h b (rects_to rs n)) gs y new) q a)))
 
     module _ (x : Scheduled) (given : Answers (schedule w h b (rects_to rs n)) gs x new) (count pixels : ℕ) (q : x ≡ Regions count pixels) where
       told : Answers (schedule w h b (rects_to rs n)) gs (Regions count pixels) new
       told = subst (λ (y : Scheduled). Answers (schedule w h b (rects_to rs n)) gs y new) q given
 
-      pub regions_over : G < count → (xs ws : List ℕ) → Judges (Refused 10 0) xs ws
+      pub regions_over : G < count → (xs ws : List ℕ) → Judges (refused NoRoom 0) xs ws
       regions_over k = regions_many (omega (arith, (answered (schedule w h b (rects_to rs n)) gs new count pixels told).count_is))
 
-      pub regions_fit : n ≤ R → 4 * R ≤ length rs → count ≤ G → (p : Plan) (old ws : List ℕ) → W ≤ length old → p ≡ indexed (index_of (drop (4 * first) ibs) commands h b) W n commands count pixels → ws ≡ stored (index_of (drop (4 * first) ibs) commands h b) old → Judges p new ws
+      pub regions_fit : n ≤ R → 4 * R ≤ length rs → count ≤ G → (p : Result Plan Refusal) (old ws : List ℕ) → W ≤ length old → p ≡ indexed (index_of (drop (4 * first) ibs) commands h b) W n commands count pixels → ws ≡ stored (index_of (drop (4 * first) ibs) commands h b) old → Judges p new ws
       unfolding draft_fits
       regions_fit k l m p old ws room e f = (answer_is, stands)
         where
@@ -123,9 +122,9 @@ module _ (w h b : ℕ) (rs : List Float) (n : ℕ) (ibs : List Float) (first com
           answer_is =
               let u : leb (length (rects_to rs n)) R ≡ true = le-leb (length (rects_to rs n)) R (omega (arith, rects_length rs n)) in
               let v : leb (length (schedule w h b (rects_to rs n))) G ≡ true = le-leb (length (schedule w h b (rects_to rs n))) G (omega (arith, listed.count_is)) in
-              e ∙ rw (u, v) (λ i. pick (leb (length words) W) (Planned (sym (rects_length rs n) i) (length words) (work_of commands (listed.count_is i) (listed.pixels_are i))) (Refused 10 0))
+              e ∙ rw (u, v) (λ i. pick (leb (length words) W) (Ok (planned (sym (rects_length rs n) i) (length words) (work_of commands (listed.count_is i) (listed.pixels_are i)))) (refused NoRoom 0))
 
-          low : (t : Bool) → leb (length words) W ≡ t → accepted (pick t (Planned n (length words) (work_of commands count pixels)) (Refused 10 0)) ≡ true → length words ≤ W
+          low : (t : Bool) → leb (length words) W ≡ t → accepted (pick t (Ok (planned n (length words) (work_of commands count pixels))) (refused NoRoom 0)) ≡ true → length words ≤ W
           low true g q = leb-true (length words) W g
           low false g q = untrue q
 

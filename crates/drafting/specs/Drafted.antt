@@ -9,7 +9,6 @@ use Rattle.band_index.specs.Boxes.{boxes_of}
 use Rattle.index_words.specs.Index.{index_words}
 use Rattle.runtime.specs.Work.{work_of}
 use Rattle.plans.specs.declared.Plan.{Plan}
-use Rattle.plans.specs.declared.Plan.TheVariants.{Planned, Refused}
 use Rattle.plans.specs.Drafts.{Draft}
 use Rattle.plans.specs.Space.{Lent}
 use Rattle.plans.specs.Answers.{draft_fits, counts, accepted}
@@ -29,12 +28,12 @@ abbrev pub rooms : ℕ → ℕ → ℕ → Lent
 rooms rects regions words = record { commands = 0; glyphs = 0; clips = 0; rects = rects; regions = regions; words = words }
 
 -- its counts, or 10 where it does not fit
-abbrev pub judged : Lent → Draft → Plan
-judged z d = pick (draft_fits z d) (counts d) (Refused 10 0)
+abbrev pub judged : Lent → Draft → Result Plan Refusal
+judged z d = pick (draft_fits z d) (counts d) (refused NoRoom 0)
 
 -- the same, of the index words alone, for a frame whose rectangles, regions and pixels are counted
-abbrev pub indexed : List ℕ → ℕ → ℕ → ℕ → ℕ → ℕ → Plan
-indexed words room rects commands regions pixels = pick (leb (length words) room) (Planned rects (length words) (work_of commands regions pixels)) (Refused 10 0)
+abbrev pub indexed : List ℕ → ℕ → ℕ → ℕ → ℕ → ℕ → Result Plan Refusal
+indexed words room rects commands regions pixels = pick (leb (length words) room) (Ok (planned rects (length words) (work_of commands regions pixels))) (refused NoRoom 0)
 
 -- the words of a draft stand in front of what was lent for it
 pub record Stands (d : Draft) (rs : List Float) (gs ws : List ℕ) : Type 0 where
@@ -43,7 +42,7 @@ pub record Stands (d : Draft) (rs : List Float) (gs ws : List ℕ) : Type 0 wher
   pub words : take (length d.words) ws ≡ d.words
 
 -- they stand there where the draft is accepted
-abbrev pub StandsIf : Plan → Draft → List Float → List ℕ → List ℕ → Type 0
+abbrev pub StandsIf : Result Plan Refusal → Draft → List Float → List ℕ → List ℕ → Type 0
 StandsIf r d rs gs ws = accepted r ≡ true → Stands d rs gs ws
 
 -- the scratch is long enough for what is said to be lent, and the commands stand in it

@@ -8,6 +8,7 @@ ghost use Rattle.drafting.specs.Drafted.{draft_in, rooms, indexed, judged, Stand
 
 use band_index::Built;
 use plans::Plan;
+use refusals::{Fault, Refusal};
 use runtime::FrameWork;
 use scheduler::Scheduled;
 
@@ -25,7 +26,7 @@ fn index_draft(
     room: usize,
     spans: &mut [u64],
     words: &mut [u32],
-) -> Plan
+) -> Result<Plan, Refusal>
     requires { (Size height) × (Size band_height) × (commands ≤ 4096) × (4 * (first + commands) ≤ length item_boxes.now) × (room ≤ length words.old) × (commands ≤ length spans.old) }
     ensures answer { result ≡ indexed (index_of (drop (4 * first) item_boxes.now) commands height band_height) room rects commands regions pixels }
     ensures held { words.new ≡ stored (index_of (drop (4 * first) item_boxes.now) commands height band_height) words.old }
@@ -41,11 +42,15 @@ fn index_draft(
     ) {
         Built::Words(count) => {
             if room < count {
-                return Plan::Refused(10, 0);
+                return Err(Fault::NoRoom.at(0));
             }
-            Plan::Planned(rects, count, FrameWork::of(commands, regions, pixels))
+            Ok(Plan {
+                rects,
+                words: count,
+                work: FrameWork::of(commands, regions, pixels),
+            })
         }
-        Built::Full => Plan::Refused(10, 0),
+        Built::Full => Err(Fault::NoRoom.at(0)),
     }
 }
 
@@ -68,18 +73,18 @@ pub fn draft(
     spans: &mut [u64],
     regions: &mut [u32],
     words: &mut [u32],
-) -> Plan
+) -> Result<Plan, Refusal>
     requires { Ready width height band_height rects.now item_boxes.now first commands work.old spare.old spans.old regions.old words.old (rooms rect_room region_room word_room) }
     ensures answer { result ≡ judged (rooms rect_room region_room word_room) (draft_in width height band_height rects.now n item_boxes.now first commands) }
     ensures stands { StandsIf result (draft_in width height band_height rects.now n item_boxes.now first commands) rects.now regions.new words.new }
 {
     if rect_room < n {
-        return Plan::Refused(10, 0);
+        return Err(Fault::NoRoom.at(0));
     }
     match scheduler::schedule(rects, n, width, height, band_height, work, spare, regions) {
         Scheduled::Regions(count, pixels) => {
             if region_room < count {
-                return Plan::Refused(10, 0);
+                return Err(Fault::NoRoom.at(0));
             }
             index_draft(
                 height,
@@ -95,6 +100,6 @@ pub fn draft(
                 words,
             )
         }
-        Scheduled::Full => Plan::Refused(10, 0),
+        Scheduled::Full => Err(Fault::NoRoom.at(0)),
     }
 }

@@ -33,8 +33,11 @@ abbrev pub then_end : List ℕ → Result Cursor Refusal → Result Cursor Refus
 then_end s (Ok last) = ended s last
 then_end s (Err why) = Err why
 
+abbrev pub strips : Cursor → Cursor → Strips
+strips old new = record { old = old; new = new }
+
 abbrev pub with_old : Cursor → Result Cursor Refusal → Result Strips Refusal
-with_old old (Ok new) = Ok (record { old = old; new = new })
+with_old old (Ok new) = Ok (strips old new)
 with_old old (Err why) = Err why
 
 abbrev pub then_new : List ℕ → Cursor → Result Cursor Refusal → Result Strips Refusal

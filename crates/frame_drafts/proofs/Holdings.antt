@@ -9,15 +9,9 @@ use Rattle.geometry.specs.declared.Rect.{Rect}
 use Rattle.rect_words.specs.Words.{rect_at}
 use Rattle.commands.specs.Bounds.{Command, bounds}
 use Rattle.strip.specs.declared.Cursor.{Cursor}
-use Rattle.strip.specs.declared.Answer.{Answer}
-use Rattle.strip.specs.declared.Answer.TheVariants.{Read, Refused}
 use Rattle.strip.specs.Reading.{read_strip}
 use Rattle.strip_laws.specs.Limits.{Within, WhereRead}
 use Rattle.strip_laws.proofs.Limits.{strip_within}
-use Rattle.frame.specs.declared.First.{First}
-use Rattle.frame.specs.declared.First.TheVariants.{One, NotOne}
-use Rattle.frame.specs.declared.Pair.{Pair}
-use Rattle.frame.specs.declared.Pair.TheVariants.{Both, NotBoth}
 use Rattle.frame.specs.Frame.{first_of, both_of, then_end, then_new, then_strips, ended}
 use Rattle.stored_lists.specs.Stored.{command_in, commands_in, Stored}
 use Rattle.recording.specs.Recorded.{Space, SameLengths, Room}
@@ -28,32 +22,32 @@ use Rattle.plans.specs.Answers.{items_fit}
 use Rattle.frame_drafts.specs.Scratch.{lent}
 
 -- ---- the counts are within the limits
-abbrev FirstWithin : First → Type 0
-FirstWithin (One new) = Within new
-FirstWithin (NotOne n p) = Unit {0}
+abbrev FirstWithin : Result Cursor Refusal → Type 0
+FirstWithin (Ok new) = Within new
+FirstWithin (Err why) = Unit {0}
 
-end_within : (s : List ℕ) (x : Answer) → WhereRead Within x → FirstWithin (then_end s x)
-end_within s (Read t) w = pick_cases FirstWithin (ltb t.at (length s)) (NotOne 8 t.at) (One t) (λ e. tt) (λ e. w)
-end_within s (Refused n p) w = tt
+end_within : (s : List ℕ) (x : Result Cursor Refusal) → WhereRead Within x → FirstWithin (then_end s x)
+end_within s (Ok t) w = pick_cases FirstWithin (ltb t.at (length s)) (refused TrailingByte t.at) (Ok t) (λ e. tt) (λ e. w)
+end_within s (Err why) w = tt
 
-pub first_within : (s : List ℕ) (r : First) → r ≡ first_of s → (new : Cursor) → r ≡ One new → Within new
+pub first_within : (s : List ℕ) (r : Result Cursor Refusal) → r ≡ first_of s → (new : Cursor) → r ≡ Ok new → Within new
 unfolding first_of
 first_within s r a new q = subst FirstWithin (sym a ∙ q) (end_within s (read_strip s 12) (strip_within s 12))
 
-abbrev BothWithin : Pair → Type 0
-BothWithin (Both old new) = Within old × Within new
-BothWithin (NotBoth n p) = Unit {0}
+abbrev BothWithin : Result Strips Refusal → Type 0
+BothWithin (Ok both) = Within both.old × Within both.new
+BothWithin (Err why) = Unit {0}
 
-new_within : (s : List ℕ) (old : Cursor) → Within old → (x : Answer) → WhereRead Within x → BothWithin (then_new s old x)
+new_within : (s : List ℕ) (old : Cursor) → Within old → (x : Result Cursor Refusal) → WhereRead Within x → BothWithin (then_new s old x)
 unfolding ended
-new_within s old w (Read t) v = pick_cases BothWithin (ltb t.at (length s)) (NotBoth 8 t.at) (Both old t) (λ e. tt) (λ e. (w, v))
-new_within s old w (Refused n p) v = tt
+new_within s old w (Ok t) v = pick_cases BothWithin (ltb t.at (length s)) (refused TrailingByte t.at) (Ok (strips old t)) (λ e. tt) (λ e. (w, v))
+new_within s old w (Err why) v = tt
 
-old_within : (s : List ℕ) (x : Answer) → WhereRead Within x → BothWithin (then_strips s x)
-old_within s (Read old) w = new_within s old w (read_strip s old.at) (strip_within s old.at)
-old_within s (Refused n p) w = tt
+old_within : (s : List ℕ) (x : Result Cursor Refusal) → WhereRead Within x → BothWithin (then_strips s x)
+old_within s (Ok old) w = new_within s old w (read_strip s old.at) (strip_within s old.at)
+old_within s (Err why) w = tt
 
-pub both_within : (s : List ℕ) (r : Pair) → r ≡ both_of s → (old new : Cursor) → r ≡ Both old new → Within old × Within new
+pub both_within : (s : List ℕ) (r : Result Strips Refusal) → r ≡ both_of s → (old new : Cursor) → r ≡ Ok (strips old new) → Within old × Within new
 unfolding both_of
 both_within s r a old new q = subst BothWithin (sym a ∙ q) (old_within s (read_strip s 12) (strip_within s 12))
 

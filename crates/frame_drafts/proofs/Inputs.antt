@@ -17,16 +17,10 @@ use Rattle.strip.specs.declared.Cursor.{Cursor}
 use Rattle.strip.specs.Reading.{commands_of}
 use Rattle.strip_laws.specs.Limits.{Within}
 use Rattle.frame.specs.declared.Header.{Header}
-use Rattle.frame.specs.declared.Header.TheVariants as H
-use Rattle.frame.specs.declared.First.{First}
-use Rattle.frame.specs.declared.First.TheVariants.{One, NotOne}
-use Rattle.frame.specs.declared.Pair.{Pair}
-use Rattle.frame.specs.declared.Pair.TheVariants.{Both, NotBoth}
 use Rattle.frame.specs.Frame.{size_fits, header_of, first_of, both_of}
 use Rattle.stored_lists.specs.Stored.{commands_in, Stored}
 use Rattle.recording.specs.Recorded.{Space, SameLengths, Room, Holds, Two, RecordsFirst, RecordsBoth}
 use Rattle.plans.specs.declared.Plan.{Plan}
-use Rattle.plans.specs.declared.Plan.TheVariants.{Refused}
 use Rattle.plans.specs.Drafts.{Items, Outcome, screen_rect, on_first, on_both, first_outcome, next_outcome}
 use Rattle.plans.specs.Space.{Lent}
 use Rattle.plans.specs.Answers.{items_fit, answer_of}
@@ -39,15 +33,15 @@ use Rattle.frame_drafts.proofs.Judgements.{untrue, answered, no_items}
 abbrev lent_for : Space → List ℕ → ℕ → ℕ → ℕ → Lent
 lent_for z glyphs R G W = lent z.boxes z.below z.items z.item_boxes glyphs R G W
 
-abbrev Meets : Lent → Outcome → Plan → List Float → List ℕ → List ℕ → Type 0
+abbrev Meets : Lent → Outcome → Result Plan Refusal → List Float → List ℕ → List ℕ → Type 0
 Meets z o p rs gs ws = (p ≡ answer_of z o) × StandsFor p o rs gs ws
 
 -- ---- two strips
-module _ (s : List ℕ) (w h b : ℕ) (z y : Space) (glyphs : List ℕ) (R G W : ℕ) (r : Pair) (a : r ≡ both_of s) (l : SameLengths z y) (k : RecordsBoth s y r) where
-  pub next_refused : (n m : ℕ) → r ≡ NotBoth n m → (rs : List Float) (gs ws : List ℕ) → Meets (lent_for z glyphs R G W) (on_both w h b s (both_of s)) (Refused n m) rs gs ws
+module _ (s : List ℕ) (w h b : ℕ) (z y : Space) (glyphs : List ℕ) (R G W : ℕ) (r : Result Strips Refusal) (a : r ≡ both_of s) (l : SameLengths z y) (k : RecordsBoth s y r) where
+  pub next_refused : (n m : ℕ) → r ≡ Err why → (rs : List Float) (gs ws : List ℕ) → Meets (lent_for z glyphs R G W) (on_both w h b s (both_of s)) (Err why) rs gs ws
   next_refused n m q rs gs ws = rw (sym (sym q ∙ a)) (refl, tt)
 
-  module _ (old new : Cursor) (q : r ≡ Both old new) where
+  module _ (old new : Cursor) (q : r ≡ Ok (strips old new)) where
     next_within : Within old × Within new
     next_within = both_within s r a old new q
 
@@ -62,7 +56,7 @@ module _ (s : List ℕ) (w h b : ℕ) (z y : Space) (glyphs : List ℕ) (R G W :
     items = record { commands = old.commands + new.commands; glyphs = old.glyphs + new.glyphs; clips = old.clips + new.clips }
 
     module _ (t : Bool) (f : t ≡ items_fit (lent y.boxes y.below y.items y.item_boxes glyphs 0 0 0) (record { commands = old.commands + new.commands; glyphs = old.glyphs + new.glyphs; clips = old.clips + new.clips })) where
-      pub next_over : t ≡ false → (rs : List Float) (gs ws : List ℕ) → Meets (lent_for z glyphs R G W) (on_both w h b s (both_of s)) (Refused 10 0) rs gs ws
+      pub next_over : t ≡ false → (rs : List Float) (gs ws : List ℕ) → Meets (lent_for z glyphs R G W) (on_both w h b s (both_of s)) (refused NoRoom 0) rs gs ws
       next_over e rs gs ws = rw (sym (sym q ∙ a)) (no_items (lent_for z glyphs R G W) _ _ (sym (items_same z y glyphs R G W _ l) ∙ sym f ∙ e), λ u. untrue u)
 
       module _ (e : t ≡ true) where
@@ -88,7 +82,7 @@ module _ (s : List ℕ) (w h b : ℕ) (z y : Space) (glyphs : List ℕ) (R G W :
           word_room = m.word_room;
         }
 
-        pub next_meets : (before rs : List Float) (n : ℕ) → Listed before (diff_dirty (commands_in s y.boxes y.below y.items 0 old.commands) (commands_in s y.boxes y.below y.items old.commands new.commands)) rs n → 4 * R ≤ length before → (p : Plan) (gs ws : List ℕ)
+        pub next_meets : (before rs : List Float) (n : ℕ) → Listed before (diff_dirty (commands_in s y.boxes y.below y.items 0 old.commands) (commands_in s y.boxes y.below y.items old.commands new.commands)) rs n → 4 * R ≤ length before → (p : Result Plan Refusal) (gs ws : List ℕ)
             → p ≡ judged (rooms R G W) (draft_in w h b rs n y.item_boxes old.commands new.commands) → StandsIf p (draft_in w h b rs n y.item_boxes old.commands new.commands) rs gs ws → Meets (lent_for z glyphs R G W) (on_both w h b s (both_of s)) p rs gs ws
         next_meets before rs n x m p gs ws c v =
             let o = two.old_list in
@@ -103,13 +97,13 @@ zero_whole : of_bits binary64 0 ≡ whole 0
 unfolding of_bits of_int
 zero_whole = refl
 
-module _ (s : List ℕ) (w h b : ℕ) (z y : Space) (glyphs : List ℕ) (R G W : ℕ) (r : First) (a : r ≡ first_of s) (l : SameLengths z y) (k : RecordsFirst s y r) where
-  pub first_refused : (n m : ℕ) → r ≡ NotOne n m → (rs : List Float) (gs ws : List ℕ) → Meets (lent_for z glyphs R G W) (on_first w h b s (first_of s)) (Refused n m) rs gs ws
+module _ (s : List ℕ) (w h b : ℕ) (z y : Space) (glyphs : List ℕ) (R G W : ℕ) (r : Result Cursor Refusal) (a : r ≡ first_of s) (l : SameLengths z y) (k : RecordsFirst s y r) where
+  pub first_refused : (n m : ℕ) → r ≡ Err why → (rs : List Float) (gs ws : List ℕ) → Meets (lent_for z glyphs R G W) (on_first w h b s (first_of s)) (Err why) rs gs ws
   first_refused n m q rs gs ws = rw (sym (sym q ∙ a)) (refl, tt)
 
-  module _ (new : Cursor) (q : r ≡ One new) where
+  module _ (new : Cursor) (q : r ≡ Ok new) where
     module _ (t : Bool) (f : t ≡ items_fit (lent y.boxes y.below y.items y.item_boxes glyphs 0 0 0) (record { commands = new.commands; glyphs = new.glyphs; clips = new.clips })) where
-      pub first_over : t ≡ false → (rs : List Float) (gs ws : List ℕ) → Meets (lent_for z glyphs R G W) (on_first w h b s (first_of s)) (Refused 10 0) rs gs ws
+      pub first_over : t ≡ false → (rs : List Float) (gs ws : List ℕ) → Meets (lent_for z glyphs R G W) (on_first w h b s (first_of s)) (refused NoRoom 0) rs gs ws
       first_over e rs gs ws = rw (sym (sym q ∙ a)) (no_items (lent_for z glyphs R G W) _ _ (sym (items_same z y glyphs R G W _ l) ∙ sym f ∙ e), λ u. untrue u)
 
       module _ (e : t ≡ true) where
@@ -139,7 +133,7 @@ module _ (s : List ℕ) (w h b : ℕ) (z y : Space) (glyphs : List ℕ) (R G W :
             word_room = m.word_room;
           }
 
-          pub first_meets : 4 * R ≤ length before → (p : Plan) (gs ws : List ℕ) → p ≡ judged (rooms R G W) (draft_in w h b rs n y.item_boxes 0 new.commands) → StandsIf p (draft_in w h b rs n y.item_boxes 0 new.commands) rs gs ws → Meets (lent_for z glyphs R G W) (on_first w h b s (first_of s)) p rs gs ws
+          pub first_meets : 4 * R ≤ length before → (p : Result Plan Refusal) (gs ws : List ℕ) → p ≡ judged (rooms R G W) (draft_in w h b rs n y.item_boxes 0 new.commands) → StandsIf p (draft_in w h b rs n y.item_boxes 0 new.commands) rs gs ws → Meets (lent_for z glyphs R G W) (on_first w h b s (first_of s)) p rs gs ws
           first_meets m p gs ws c v =
               let boxes = stored_boxes s y.boxes y.below y.items y.item_boxes 0 new.commands stored (commands_of s 12) one.1 in
               let many : new.commands ≡ length (commands_of s 12) = sym (list_length s y.boxes y.below y.items new.commands 0) ∙ ap length one.1 in
@@ -176,7 +170,7 @@ module _ (s : List ℕ) (r : Header) (a : r ≡ header_of s) where
   pub header_sizes : (w h b : ℕ) → r ≡ H.Sizes w h b → Sizes w h b
   header_sizes w h b q = subst HeaderFits (sym a ∙ q) (header_fits s)
 
-  module _ (z : Lent) (p : Plan) (rs : List Float) (gs ws : List ℕ) where
+  module _ (z : Lent) (p : Result Plan Refusal) (rs : List Float) (gs ws : List ℕ) where
     pub header_first : (w h b : ℕ) → r ≡ H.Sizes w h b → p ≡ answer_of z (on_first w h b s (first_of s)) → StandsFor p (on_first w h b s (first_of s)) rs gs ws → Meets z (first_outcome s) p rs gs ws
     unfolding first_outcome
     header_first w h b q e f = rw (sym (sym q ∙ a)) (e, f)
@@ -186,10 +180,10 @@ module _ (s : List ℕ) (r : Header) (a : r ≡ header_of s) where
     header_next w h b q e f = rw (sym (sym q ∙ a)) (e, f)
 
   module _ (z : Lent) (rs : List Float) (gs ws : List ℕ) (n : ℕ) (q : r ≡ H.BadHeader n) where
-    pub header_no_first : Meets z (first_outcome s) (Refused n 0) rs gs ws
+    pub header_no_first : Meets z (first_outcome s) (Err why) rs gs ws
     unfolding first_outcome
     header_no_first = rw (sym (sym q ∙ a)) (refl, tt)
 
-    pub header_no_next : Meets z (next_outcome s) (Refused n 0) rs gs ws
+    pub header_no_next : Meets z (next_outcome s) (Err why) rs gs ws
     unfolding next_outcome
     header_no_next = rw (sym (sym q ∙ a)) (refl, tt)

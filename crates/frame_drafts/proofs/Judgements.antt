@@ -13,7 +13,6 @@ use Rattle.bands.specs.Bands.{rects_to}
 use Rattle.scheduler.specs.Schedule.{schedule}
 use Rattle.band_index.specs.Boxes.{boxes_of}
 use Rattle.plans.specs.declared.Plan.{Plan}
-use Rattle.plans.specs.declared.Plan.TheVariants.{Refused}
 use Rattle.plans.specs.Drafts.{Draft, draft, Items, drafted, screen_rect}
 use Rattle.plans.specs.Space.{Lent}
 use Rattle.plans.specs.Answers.{items_fit, draft_fits, accepted, answer_of}
@@ -33,7 +32,7 @@ module _ (w h b : ℕ) (l : List Rect) (cs : List Command) (old rs : List Float)
       let r : rects_to rs n ≡ l = ap (rects_to rs) m ∙ rects_back l rs (screen_rect w h) (ap (λ (j : ℕ). take (4 * j) rs) (sym m) ∙ front) in
       λ i. record { rects = r i; regions = schedule w h b (r i); words = index_words b (row_count h b) (boxes i); emitted = many i }
 
-  module _ (z : Lent) (i : Items) (fit : items_fit z i ≡ true) (same-rects : z.rects ≡ R) (same-regions : z.regions ≡ G) (same-words : z.words ≡ W) (p : Plan) (gs ws : List ℕ) (e : p ≡ judged (rooms R G W) (draft_in w h b rs n ibs first count)) (f : StandsIf p (draft_in w h b rs n ibs first count) rs gs ws) where
+  module _ (z : Lent) (i : Items) (fit : items_fit z i ≡ true) (same-rects : z.rects ≡ R) (same-regions : z.regions ≡ G) (same-words : z.words ≡ W) (p : Result Plan Refusal) (gs ws : List ℕ) (e : p ≡ judged (rooms R G W) (draft_in w h b rs n ibs first count)) (f : StandsIf p (draft_in w h b rs n ibs first count) rs gs ws) where
     abbrev Answered : Type 0
     Answered = (p ≡ answer_of z (drafted i (draft w h b l cs))) × StandsIf p (draft w h b l cs) rs gs ws
 
@@ -48,14 +47,14 @@ module _ (w h b : ℕ) (l : List Rect) (cs : List Command) (old rs : List Float)
     too_many k =
         let u : leb (length (rects_to rs n)) R ≡ false = lt-leb (length (rects_to rs n)) R (omega (arith, rects_length rs n)) in
         let v : leb (length l) R ≡ false = lt-leb (length l) R (omega (arith, listed.count)) in
-        let c : p ≡ Refused 10 0 = e ∙ rw u in
+        let c : p ≡ refused NoRoom 0 = e ∙ rw u in
         (c ∙ rw (fit, same-rects, v), λ q. untrue (sym (ap accepted c) ∙ q))
 
     pub answered : (p ≡ answer_of z (drafted i (draft w h b l cs))) × StandsIf p (draft w h b l cs) rs gs ws
     answered = by_le n R fits_small too_many
 
 -- ---- items that do not fit
-pub no_items : (z : Lent) (i : Items) (d : Draft) → items_fit z i ≡ false → (Refused 10 0 ≡ answer_of z (drafted i d))
+pub no_items : (z : Lent) (i : Items) (d : Draft) → items_fit z i ≡ false → ((refused NoRoom 0) ≡ answer_of z (drafted i d))
 no_items z i d e = rw e
 
 -- ---- the test of the items, by its parts

@@ -26,6 +26,6 @@ pub record Roomy (rs : List Float) (work spare gs ws : List ℕ) (rects regions 
   pub word_room : words ≤ length ws
 
 -- where the call is accepted, the words of its draft stand in front of that space
-abbrev pub StandsFor : Plan → Outcome → List Float → List ℕ → List ℕ → Type 0
-StandsFor r (turned n p) rs gs ws = Unit {0}
+abbrev pub StandsFor : Result Plan Refusal → Outcome → List Float → List ℕ → List ℕ → Type 0
+StandsFor r (turned why) rs gs ws = Unit {0}
 StandsFor r (drafted i d) rs gs ws = StandsIf r d rs gs ws

@@ -9,9 +9,9 @@ ghost use Rattle.plans.specs.Drafts.{on_first, on_both, first_outcome, next_outc
 ghost use Rattle.plans.specs.Answers.{items_fit, answer_of};
 ghost use Rattle.frame_drafts.specs.Scratch.{lent, Roomy, StandsFor};
 
-use frame::{First, Header, Pair};
 use geometry::Rect;
 use plans::Plan;
+use refusals::{Fault, Refusal};
 
 pub fn lesser(a: usize, b: usize) -> usize
     ensures { result ≡ min a b }
@@ -63,57 +63,53 @@ fn draft_first(
     spare: &mut [u64],
     regions: &mut [u32],
     words: &mut [u32],
-) -> Plan
+) -> Result<Plan, Refusal>
     requires { Sizes width height band_height × Roomy rects.old work.old spare.old regions.old words.old rect_room region_room word_room }
     ensures answer { result ≡ answer_of (lent boxes.old below.old items.old item_boxes.old glyph_items.now rect_room region_room word_room) (on_first width height band_height s.now (first_of s.now)) }
     ensures stands { StandsFor result (on_first width height band_height s.now (first_of s.now)) rects.new regions.new words.new }
 {
-    match recording::record_first(s, boxes, below, items, item_boxes) {
-        First::One(new) => {
-            let commands = new.commands;
-            let glyphs = new.glyphs;
-            let clips = new.clips;
-            if items_fit(
-                commands,
-                glyphs,
-                clips,
-                boxes,
-                below,
-                items,
-                item_boxes,
-                glyph_items,
-            ) {
-                let screen = Rect {
-                    x0: 0.0,
-                    y0: 0.0,
-                    x1: std::num::nearest_u64_to_f64(width as u64),
-                    y1: std::num::nearest_u64_to_f64(height as u64),
-                };
-                let n = rect_list::append(rects, 0, screen);
-                // The items are not read again, so that their space can hold the rows of the commands.
-                return drafting::draft(
-                    width,
-                    height,
-                    band_height,
-                    item_boxes,
-                    0,
-                    commands as usize,
-                    rects,
-                    n,
-                    rect_room,
-                    region_room,
-                    word_room,
-                    work,
-                    spare,
-                    items,
-                    regions,
-                    words,
-                );
-            }
-            Plan::Refused(10, 0)
-        }
-        First::NotOne(number, position) => Plan::Refused(number, position),
+    let new = recording::record_first(s, boxes, below, items, item_boxes)?;
+    let commands = new.commands;
+    let glyphs = new.glyphs;
+    let clips = new.clips;
+    if !items_fit(
+        commands,
+        glyphs,
+        clips,
+        boxes,
+        below,
+        items,
+        item_boxes,
+        glyph_items,
+    ) {
+        return Err(Fault::NoRoom.at(0));
     }
+    let screen = Rect {
+        x0: 0.0,
+        y0: 0.0,
+        x1: std::num::nearest_u64_to_f64(width as u64),
+        y1: std::num::nearest_u64_to_f64(height as u64),
+    };
+    let n = rect_list::append(rects, 0, screen);
+    // The items are not read again, so that their space can hold the rows of the commands.
+    drafting::draft(
+        width,
+        height,
+        band_height,
+        item_boxes,
+        0,
+        commands as usize,
+        rects,
+        n,
+        rect_room,
+        region_room,
+        word_room,
+        work,
+        spare,
+        items,
+        regions,
+        words,
+    )
 }
 
 // The draft of a frame after another: what changed between the two strips.
@@ -135,62 +131,58 @@ fn draft_next(
     spare: &mut [u64],
     regions: &mut [u32],
     words: &mut [u32],
-) -> Plan
+) -> Result<Plan, Refusal>
     requires { Sizes width height band_height × Roomy rects.old work.old spare.old regions.old words.old rect_room region_room word_room }
     ensures answer { result ≡ answer_of (lent boxes.old below.old items.old item_boxes.old glyph_items.now rect_room region_room word_room) (on_both width height band_height s.now (both_of s.now)) }
     ensures stands { StandsFor result (on_both width height band_height s.now (both_of s.now)) rects.new regions.new words.new }
 {
-    match recording::record_both(s, boxes, below, items, item_boxes) {
-        Pair::Both(old, new) => {
-            let old_commands = old.commands;
-            let new_commands = new.commands;
-            let commands = old_commands + new_commands;
-            let glyphs = old.glyphs + new.glyphs;
-            let clips = old.clips + new.clips;
-            if items_fit(
-                commands,
-                glyphs,
-                clips,
-                boxes,
-                below,
-                items,
-                item_boxes,
-                glyph_items,
-            ) {
-                let changed = runtime::diff_dirty(
-                    s,
-                    boxes,
-                    below,
-                    items,
-                    item_boxes,
-                    old_commands as usize,
-                    new_commands as usize,
-                    rects,
-                );
-                // The comparison was the last to read the items: their space can hold the rows of the commands.
-                return drafting::draft(
-                    width,
-                    height,
-                    band_height,
-                    item_boxes,
-                    old_commands as usize,
-                    new_commands as usize,
-                    rects,
-                    changed,
-                    rect_room,
-                    region_room,
-                    word_room,
-                    work,
-                    spare,
-                    items,
-                    regions,
-                    words,
-                );
-            }
-            Plan::Refused(10, 0)
-        }
-        Pair::NotBoth(number, position) => Plan::Refused(number, position),
+    let both = recording::record_both(s, boxes, below, items, item_boxes)?;
+    let old_commands = both.old.commands;
+    let new_commands = both.new.commands;
+    let commands = old_commands + new_commands;
+    let glyphs = both.old.glyphs + both.new.glyphs;
+    let clips = both.old.clips + both.new.clips;
+    if !items_fit(
+        commands,
+        glyphs,
+        clips,
+        boxes,
+        below,
+        items,
+        item_boxes,
+        glyph_items,
+    ) {
+        return Err(Fault::NoRoom.at(0));
     }
+    let changed = runtime::diff_dirty(
+        s,
+        boxes,
+        below,
+        items,
+        item_boxes,
+        old_commands as usize,
+        new_commands as usize,
+        rects,
+    );
+    // The comparison was the last to read the items: their space can hold the rows of the commands.
+    drafting::draft(
+        width,
+        height,
+        band_height,
+        item_boxes,
+        old_commands as usize,
+        new_commands as usize,
+        rects,
+        changed,
+        rect_room,
+        region_room,
+        word_room,
+        work,
+        spare,
+        items,
+        regions,
+        words,
+    )
 }
 
 // Header and one strip.
@@ -209,33 +201,31 @@ pub fn first_frame(
     spare: &mut [u64],
     regions: &mut [u32],
     words: &mut [u32],
-) -> Plan
+) -> Result<Plan, Refusal>
     requires { Roomy rects.old work.old spare.old regions.old words.old rect_room region_room word_room }
     ensures answer { result ≡ answer_of (lent boxes.old below.old items.old item_boxes.old glyph_items.now rect_room region_room word_room) (first_outcome s.now) }
     ensures stands { StandsFor result (first_outcome s.now) rects.new regions.new words.new }
 {
-    match frame::read_header(s) {
-        Header::Sizes(width, height, band_height) => draft_first(
-            s,
-            width,
-            height,
-            band_height,
-            rect_room,
-            region_room,
-            word_room,
-            boxes,
-            below,
-            items,
-            item_boxes,
-            glyph_items,
-            rects,
-            work,
-            spare,
-            regions,
-            words,
-        ),
-        Header::BadHeader(number) => Plan::Refused(number, 0),
-    }
+    let sizes = frame::read_header(s)?;
+    draft_first(
+        s,
+        sizes.width,
+        sizes.height,
+        sizes.band_height,
+        rect_room,
+        region_room,
+        word_room,
+        boxes,
+        below,
+        items,
+        item_boxes,
+        glyph_items,
+        rects,
+        work,
+        spare,
+        regions,
+        words,
+    )
 }
 
 // Header, the last accepted strip and the new one.
@@ -254,31 +244,29 @@ pub fn next_frame(
     spare: &mut [u64],
     regions: &mut [u32],
     words: &mut [u32],
-) -> Plan
+) -> Result<Plan, Refusal>
     requires { Roomy rects.old work.old spare.old regions.old words.old rect_room region_room word_room }
     ensures answer { result ≡ answer_of (lent boxes.old below.old items.old item_boxes.old glyph_items.now rect_room region_room word_room) (next_outcome s.now) }
     ensures stands { StandsFor result (next_outcome s.now) rects.new regions.new words.new }
 {
-    match frame::read_header(s) {
-        Header::Sizes(width, height, band_height) => draft_next(
-            s,
-            width,
-            height,
-            band_height,
-            rect_room,
-            region_room,
-            word_room,
-            boxes,
-            below,
-            items,
-            item_boxes,
-            glyph_items,
-            rects,
-            work,
-            spare,
-            regions,
-            words,
-        ),
-        Header::BadHeader(number) => Plan::Refused(number, 0),
-    }
+    let sizes = frame::read_header(s)?;
+    draft_next(
+        s,
+        sizes.width,
+        sizes.height,
+        sizes.band_height,
+        rect_room,
+        region_room,
+        word_room,
+        boxes,
+        below,
+        items,
+        item_boxes,
+        glyph_items,
+        rects,
+        work,
+        spare,
+        regions,
+        words,
+    )
 }

@@ -18,16 +18,10 @@ use Rattle.index_words.specs.Index.{index_words}
 use Rattle.scheduler.specs.Schedule.{Sizes, schedule}
 use Rattle.changes.specs.Changes.{diff_dirty}
 use Rattle.strip.specs.declared.Cursor.{Cursor}
-use Rattle.strip.specs.declared.Answer.{Answer}
-use Rattle.strip.specs.declared.Answer.TheVariants.{Read, Refused}
 use Rattle.strip.specs.Reading.{read_strip, commands_of}
-use Rattle.frame.specs.declared.Header.TheVariants.{Sizes as Fits, BadHeader}
-use Rattle.frame.specs.declared.First.TheVariants.{One, NotOne}
-use Rattle.frame.specs.declared.Pair.TheVariants.{Both, NotBoth}
 use Rattle.frame.specs.Frame.{size_fits, header_of, ended, then_new, then_end, first_of, both_of}
 use Rattle.frame.proofs.Checks.{both_next}
 use Rattle.plans.specs.declared.Plan.{Plan}
-use Rattle.plans.specs.declared.Plan.TheVariants.{Planned, Refused as TurnedAway}
 use Rattle.plans.specs.Drafts.{Outcome, turned, drafted, on_first, on_both, on_header, first_outcome, next_outcome}
 use Rattle.plans.specs.Space.{Slices, Lent, lent_of}
 use Rattle.plans.specs.Answers.{answer_of, accepted, published, index_words as words_of}
@@ -73,13 +67,13 @@ module _ (header : List ℕ) (twelve : length header ≡ 12) where
       front i j e h = let f : j ≡ i = omega arith in rw f (sym (get_or-append header s 0 i (omega (arith, twelve))))
 
   -- it is turned away, or its sizes fit
-  pub by_header : (P : Outcome → Type 0) (s : List ℕ) (k : ℕ → ℕ → ℕ → Outcome) → ((n : ℕ) → P (turned n 0)) → (Sizes w h b → P (k w h b)) → P (on_header (header_of (header ++ s)) k)
+  pub by_header : (P : Outcome → Type 0) (s : List ℕ) (k : ℕ → ℕ → ℕ → Outcome) → ((n : ℕ) → P (turned why)) → (Sizes w h b → P (k w h b)) → P (on_header (header_of (header ++ s)) k)
   unfolding header_of
   by_header P s k away f =
       rw (le-ltb (length (header ++ s)) 12 (omega (arith, twelve, length-append header s)), word_same s 0 (omega arith), word_same s 4 (omega arith), word_same s 8 (omega arith))
       (go (size_fits w) (size_fits h) (size_fits b) refl refl refl)
     where
-      go : (x y z : Bool) → size_fits w ≡ x → size_fits h ≡ y → size_fits b ≡ z → P (on_header (pick (x && (y && z)) (Fits w h b) (BadHeader 1)) k)
+      go : (x y z : Bool) → size_fits w ≡ x → size_fits h ≡ y → size_fits b ≡ z → P (on_header (pick (x && (y && z)) (Fits w h b) (refused Size 0)) k)
       go false y z d e g = away 1
       go true false z d e g = away 1
       go true true false d e g = away 1
@@ -93,17 +87,17 @@ module _ (header : List ℕ) (twelve : length header ≡ 12) where
     words : words_of x ≡ index_words b (row_count h b) (map bounds (commands s))
 
   abbrev WhereDrafted : Option (List ℕ) → List ℕ → Outcome → Type 0
-  WhereDrafted last s (turned n p) = Unit {0}
+  WhereDrafted last s (turned why) = Unit {0}
   WhereDrafted last s (drafted i d) = Drafted last s (drafted i d)
 
   first_drafted : (s : List ℕ) → WhereDrafted none s (first_outcome (header ++ s))
   unfolding first_outcome first_of
   first_drafted s = by_header (WhereDrafted none s) s (λ w h b. on_first w h b (header ++ s) (first_of (header ++ s))) (λ n. tt) (λ z. go z (read_strip (header ++ s) 12) refl)
     where
-      go : Sizes w h b → (x : Answer) → read_strip (header ++ s) 12 ≡ x → WhereDrafted none s (on_first w h b (header ++ s) (then_end (header ++ s) x))
-      go z (Refused n p) e = tt
-      go z (Read new) e =
-          pick_cases (λ x. WhereDrafted none s (on_first w h b (header ++ s) x)) (ltb new.at (length (header ++ s))) (NotOne 8 new.at) (One new)
+      go : Sizes w h b → (x : Result Cursor Refusal) → read_strip (header ++ s) 12 ≡ x → WhereDrafted none s (on_first w h b (header ++ s) (then_end (header ++ s) x))
+      go z (Err why) e = tt
+      go z (Ok new) e =
+          pick_cases (λ x. WhereDrafted none s (on_first w h b (header ++ s) x)) (ltb new.at (length (header ++ s))) (refused TrailingByte new.at) (Ok new)
           (λ t. tt)
           (λ t. record { sizes = z; alone = (new, e, ends_there (header ++ s) 12 new e (ltb-false new.at (length (header ++ s)) t)); regions = refl; words = refl })
 
@@ -112,15 +106,15 @@ module _ (header : List ℕ) (twelve : length header ≡ 12) where
     input = (header ++ old) ++ s
 
     -- the new strip begins where the header and the old one end
-    new_drafted : Sizes w h b → (d : Cursor) → d.at ≡ length (header ++ old) → (x : Answer) → read_strip input d.at ≡ x → WhereDrafted (some old) s (on_both w h b input (then_new input d x))
+    new_drafted : Sizes w h b → (d : Cursor) → d.at ≡ length (header ++ old) → (x : Result Cursor Refusal) → read_strip input d.at ≡ x → WhereDrafted (some old) s (on_both w h b input (then_new input d x))
     unfolding ended
-    new_drafted z d at (Refused n p) e = tt
-    new_drafted z d at (Read new) e =
-        pick_cases (λ x. WhereDrafted (some old) s (on_both w h b input x)) (ltb new.at (length input)) (NotBoth 8 new.at) (Both d new)
+    new_drafted z d at (Err why) e = tt
+    new_drafted z d at (Ok new) e =
+        pick_cases (λ x. WhereDrafted (some old) s (on_both w h b input x)) (ltb new.at (length input)) (refused TrailingByte new.at) (Ok (strips d new))
         (λ t. tt)
         (λ t. record {
           sizes = z;
-          alone = one_strip header twelve (header ++ old) s new (subst (λ (n : ℕ). read_strip input n ≡ Read new) at e) (ltb-false new.at (length input) t);
+          alone = one_strip header twelve (header ++ old) s new (subst (λ (n : ℕ). read_strip input n ≡ Ok new) at e) (ltb-false new.at (length input) t);
           regions = λ i. schedule w h b (diff_dirty (old_list header twelve old s good i) (new_list i));
           words = λ i. index_words b (row_count h b) (map bounds (new_list i));
         })
@@ -144,15 +138,15 @@ module _ (header : List ℕ) (twelve : length header ≡ 12) where
 
   -- ---- an accepted call
   accepted_drafted : (last : Option (List ℕ)) (s : List ℕ) (z : Lent) (x : Outcome) → WhereDrafted last s x → accepted (answer_of z x) ≡ true → Drafted last s x
-  accepted_drafted last s z (turned n p) m e = absurd (true≢false (sym e))
+  accepted_drafted last s z (turned why) m e = absurd (true≢false (sym e))
   accepted_drafted last s z (drafted i d) m e = m
 
   call_made : (last : Option (List ℕ)) (s : List ℕ) (z : Slices) → Call (entries header) (OneStrip header) last s z → Drafted last s (call_of header last s)
   call_made last s z c = accepted_drafted last s (lent_of z) (call_of header last s) (call_drafted last s c.good_last) c.no_number
 
-  pub words_behind : (a : Plan) (new old : List ℕ) → accepted a ≡ true → published a new old ≡ new ++ drop (length new) old
-  words_behind (Planned r n k) new old e = refl
-  words_behind (TurnedAway n p) new old e = absurd (true≢false (sym e))
+  pub words_behind : (a : Result Plan Refusal) (new old : List ℕ) → accepted a ≡ true → published a new old ≡ new ++ drop (length new) old
+  words_behind (Ok plan) new old e = refl
+  words_behind (Err why) new old e = absurd (true≢false (sym e))
 
   entries_plan : Plans w h b (entries header) (OneStrip header)
   entries_plan = record {

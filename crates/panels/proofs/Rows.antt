@@ -22,10 +22,6 @@ use Rattle.painting.proofs.Schedules.{width_size, height_size, band_size}
 use Rattle.schedule_laws.specs.Placed.{Placed}
 use Rattle.schedule_laws.proofs.Boxes.{boxes_schedulable}
 use Rattle.strip.specs.Reading.{commands_of}
-use Rattle.frame.specs.declared.First.{First}
-use Rattle.frame.specs.declared.First.TheVariants.{One, NotOne}
-use Rattle.frame.specs.declared.Pair.{Pair}
-use Rattle.frame.specs.declared.Pair.TheVariants.{Both, NotBoth}
 use Rattle.frame.specs.Frame.{first_of, both_of}
 use Rattle.plans.specs.Drafts.{Outcome, turned, drafted, screen_rect, on_first, on_both, first_outcome, next_outcome}
 use Rattle.plans.specs.Space.{Lent, lent_of}
@@ -53,22 +49,22 @@ module _ (header : List ℕ) (twelve : length header ≡ 12) where
     words_are : words_of x ≡ index_words b (row_count h b) boxes
 
   abbrev WhereDrawn : Outcome → Type 0
-  WhereDrawn (turned n p) = Unit {0}
+  WhereDrawn (turned why) = Unit {0}
   WhereDrawn (drafted i d) = Drawn (drafted i d)
 
-  first_drawn : Sizes w h b → (s : List ℕ) (x : First) → WhereDrawn (on_first w h b s x)
-  first_drawn z s (One new) = record { sizes = z; rects = screen_rect w h ∷ []; boxes = map bounds (commands_of s 12); regions_are = refl; words_are = refl }
-  first_drawn z s (NotOne n p) = tt
+  first_drawn : Sizes w h b → (s : List ℕ) (x : Result Cursor Refusal) → WhereDrawn (on_first w h b s x)
+  first_drawn z s (Ok new) = record { sizes = z; rects = screen_rect w h ∷ []; boxes = map bounds (commands_of s 12); regions_are = refl; words_are = refl }
+  first_drawn z s (Err why) = tt
 
-  both_drawn : Sizes w h b → (s : List ℕ) (x : Pair) → WhereDrawn (on_both w h b s x)
-  both_drawn z s (Both old new) = record {
+  both_drawn : Sizes w h b → (s : List ℕ) (x : Result Strips Refusal) → WhereDrawn (on_both w h b s x)
+  both_drawn z s (Ok both) = record {
     sizes = z;
     rects = diff_dirty (commands_of s 12) (commands_of s old.at);
     boxes = map bounds (commands_of s old.at);
     regions_are = refl;
     words_are = refl;
   }
-  both_drawn z s (NotBoth n p) = tt
+  both_drawn z s (Err why) = tt
 
   call_drawn : (last : Option (List ℕ)) (s : List ℕ) → WhereDrawn (call_of header last s)
   unfolding first_outcome next_outcome
@@ -79,7 +75,7 @@ module _ (header : List ℕ) (twelve : length header ≡ 12) where
       (λ z. both_drawn z (header ++ (old ++ s)) (both_of (header ++ (old ++ s))))
 
   drawn : (z : Lent) (x : Outcome) → WhereDrawn x → accepted (answer_of z x) ≡ true → Drawn x
-  drawn z (turned n p) m e = absurd (true≢false (sym e))
+  drawn z (turned why) m e = absurd (true≢false (sym e))
   drawn z (drafted i d) m e = m
 
   module _ (x : Outcome) (m : Drawn x) (rest others tail : List ℕ) (whole : others ≡ words_of x ++ tail) where

@@ -12,8 +12,6 @@ use Rattle.commands.specs.Bounds.{Command, bounds, glyph_bounds}
 use Rattle.commands.proofs.Clips.{Upright}
 use Rattle.commands.proofs.Finite.{Number, numbers_ordered}
 use Rattle.strip.specs.declared.Cursor.{Cursor}
-use Rattle.strip.specs.declared.Answer.{Answer}
-use Rattle.strip.specs.declared.Answer.TheVariants.{Read, Refused}
 use Rattle.strip.specs.Reading.{read_strip, commands_of}
 use Rattle.strip_laws.specs.Limits.{WhereRead, Passed}
 use Rattle.strip_laws.proofs.Limits.{strip_passed}
@@ -33,26 +31,26 @@ strip_sound s at = all_map Fine Sound fine_sound (commands_of s at) (strip_fine 
 
 -- ---- where a strip ends
 -- a strip that no byte follows ends with the input
-pub ends_there : (s : List ℕ) (at : ℕ) (c : Cursor) → read_strip s at ≡ Read c → length s ≤ c.at → c.at ≡ length s
+pub ends_there : (s : List ℕ) (at : ℕ) (c : Cursor) → read_strip s at ≡ Ok c → length s ≤ c.at → c.at ≡ length s
 ends_there s at c read h = let p = subst (WhereRead (Passed at (length s))) read (strip_passed s at) in omega (arith, p.inside)
 
 -- ---- P2: the same bytes behind two others
 -- what is alike an answer that is a cursor is one, and the two are as far apart as the bytes in front
-both_read : (by to : ℕ) (d : Cursor) (x y : Answer) → AnswerAlike by x (Read d) → AnswerAlike to x y → (f : Cursor) × (y ≡ Read f) × (f.at + by ≡ to + d.at)
-both_read by to d (Read c) (Read f) a b = (f, refl, omega (arith, a.at_is, b.at_is))
-both_read by to d (Read c) (Refused n p) a b = absurd b
-both_read by to d (Refused n p) y a b = absurd a
+both_read : (by to : ℕ) (d : Cursor) (x y : Result Cursor Refusal) → AnswerAlike by x (Ok d) → AnswerAlike to x y → (f : Cursor) × (y ≡ Ok f) × (f.at + by ≡ to + d.at)
+both_read by to d (Ok c) (Ok f) a b = (f, refl, omega (arith, a.at_is, b.at_is))
+both_read by to d (Ok c) (Err why) a b = absurd b
+both_read by to d (Err why) y a b = absurd a
 
 -- the bytes behind the header read as one strip, to the last
 abbrev pub OneStrip : List ℕ → List ℕ → Type 0
-OneStrip header s = (c : Cursor) × (read_strip (header ++ s) 12 ≡ Read c) × (c.at ≡ length (header ++ s))
+OneStrip header s = (c : Cursor) × (read_strip (header ++ s) 12 ≡ Ok c) × (c.at ≡ length (header ++ s))
 
 module _ (header : List ℕ) (twelve : length header ≡ 12) where
   module _ (u s : List ℕ) where
     pub as_alone : commands_of (u ++ s) (length u) ≡ commands_of (header ++ s) 12
     as_alone = behind_list u s ∙ sym (subst (λ (n : ℕ). commands_of (header ++ s) n ≡ commands_of s 0) twelve (behind_list header s))
 
-    pub one_strip : (d : Cursor) → read_strip (u ++ s) (length u) ≡ Read d → length (u ++ s) ≤ d.at → OneStrip header s
+    pub one_strip : (d : Cursor) → read_strip (u ++ s) (length u) ≡ Ok d → length (u ++ s) ≤ d.at → OneStrip header s
     one_strip d read h =
         let a = subst (AnswerAlike (length u) (read_strip s 0)) read (behind_answer u s) in
         let b = subst (λ (n : ℕ). AnswerAlike n (read_strip s 0) (read_strip (header ++ s) n)) twelve (behind_answer header s) in
@@ -61,7 +59,7 @@ module _ (header : List ℕ) (twelve : length header ≡ 12) where
 
   -- ---- P1: the old strip before the new one
   module _ (old s : List ℕ) (good : OneStrip header old) where
-    pub old_read : (d : Cursor) × (read_strip ((header ++ old) ++ s) 12 ≡ Read d) × (d.at ≡ length (header ++ old))
+    pub old_read : (d : Cursor) × (read_strip ((header ++ old) ++ s) 12 ≡ Ok d) × (d.at ≡ length (header ++ old))
     old_read = let f = front_read (header ++ old) s 12 good.0 good.1 in (f.0, f.1, omega (arith, f.2.at_is, good.2))
 
     pub old_list : commands_of ((header ++ old) ++ s) 12 ≡ commands_of (header ++ old) 12

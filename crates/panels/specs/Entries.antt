@@ -17,7 +17,7 @@ call_of header (some old) s = next_outcome (header ++ (old ++ s))
 
 -- the regions of an accepted call
 abbrev pub regions_of : Outcome → List DeviceRegion
-regions_of (turned n p) = []
+regions_of (turned why) = []
 regions_of (drafted i d) = d.regions
 
 -- strips of any bytes, any lent space; the index words are those that the call leaves in the space lent for them

@@ -9,7 +9,6 @@ use Rattle.lists.specs.Pick.{pick}
 use Rattle.scheduler.specs.Schedule.{words_of, regions_to}
 use Rattle.scheduler.proofs.Reading.{regions_back}
 use Rattle.plans.specs.declared.Plan.{Plan}
-use Rattle.plans.specs.declared.Plan.TheVariants.{Refused}
 use Rattle.plans.specs.Drafts.{Draft, Outcome, turned, drafted, first_outcome, next_outcome}
 use Rattle.plans.specs.Space.{Slices, Lent, lent_of}
 use Rattle.plans.specs.Answers.{items_fit, draft_fits, counts, answer_of, accepted, counts_of, region_words, index_words, published}
@@ -17,18 +16,18 @@ use Rattle.panels.specs.Entries.{call_of, regions_of}
 use Rattle.panels_calls.specs.Calls.{Called, CalledFirst, CalledNext}
 
 -- an accepted answer is a plan with the counts of its draft
-planned : (t : Bool) (d : Draft) → accepted (pick t (counts d) (Refused 10 0)) ≡ true → pick t (counts d) (Refused 10 0) ≡ counts d
+planned : (t : Bool) (d : Draft) → accepted (pick t (counts d) (refused NoRoom 0)) ≡ true → pick t (counts d) (refused NoRoom 0) ≡ counts d
 planned true d e = refl
 planned false d e = absurd (true≢false (sym e))
 
 -- the regions that an accepted call leaves in their slice, read back
 regions_left : (z : Lent) (x : Outcome) (old : List ℕ) → accepted (answer_of z x) ≡ true → regions_to (published (answer_of z x) (region_words x) old) (counts_of (answer_of z x)).regions ≡ regions_of x
-regions_left z (turned n p) old e = absurd (true≢false (sym e))
+regions_left z (turned why) old e = absurd (true≢false (sym e))
 regions_left z (drafted i d) old e =
-    ap (λ (p : Plan). regions_to (published p (words_of d.regions) old) (counts_of p).regions) (planned (items_fit z i && draft_fits z d) d e)
+    ap (λ (p : Result Plan Refusal). regions_to (published p (words_of d.regions) old) (counts_of p).regions) (planned (items_fit z i && draft_fits z d) d e)
     ∙ regions_back d.regions (drop (length (words_of d.regions)) old)
 
-module _ (header : List ℕ) (last : Option (List ℕ)) (s : List ℕ) (before after : Slices) (r : Plan) where
+module _ (header : List ℕ) (last : Option (List ℕ)) (s : List ℕ) (before after : Slices) (r : Result Plan Refusal) where
   called : (x : Outcome) → x ≡ call_of header last s → r ≡ answer_of (lent_of before) x → after.regions ≡ published r (region_words x) before.regions → after.words ≡ published r (index_words x) before.words → Called header last s before after r
   called x q a g k =
       let e : r ≡ answer_of (lent_of before) (call_of header last s) = a ∙ ap (answer_of (lent_of before)) q in
@@ -41,7 +40,7 @@ module _ (header : List ℕ) (last : Option (List ℕ)) (s : List ℕ) (before a
         words = k ∙ (λ j. published (e j) (index_words (q j)) before.words);
       }
 
-module _ (input : List ℕ) (before after : Slices) (r : Plan) where
+module _ (input : List ℕ) (before after : Slices) (r : Result Plan Refusal) where
   pub first_called : r ≡ answer_of (lent_of before) (first_outcome input) → after.regions ≡ published r (region_words (first_outcome input)) before.regions → after.words ≡ published r (index_words (first_outcome input)) before.words → CalledFirst input before after r
   first_called a g k header s e = called header none s before after r (first_outcome input) (ap first_outcome e) a g k
 

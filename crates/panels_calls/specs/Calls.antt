@@ -9,16 +9,16 @@ use Rattle.panels.specs.Entries.{entries}
 
 -- What a call hands back and leaves in its slices is what that planner says for the header, the last accepted strip and the strip: whether it is accepted, the
 -- regions as they stand in their slice afterwards, as many as are counted, and all index words as they stand in theirs.
-pub record Called (header : List ℕ) (last : Option (List ℕ)) (strip : List ℕ) (before after : Slices) (plan : Plan) : Type 0 where
+pub record Called (header : List ℕ) (last : Option (List ℕ)) (strip : List ℕ) (before after : Slices) (plan : Result Plan Refusal) : Type 0 where
   pub accepts : accepted plan ≡ (entries header).accepted last strip before
   pub regions : accepted plan ≡ true → regions_to after.regions (counts_of plan).regions ≡ (entries header).regions last strip before
   pub words : after.words ≡ (entries header).words last strip before
 
 -- "the first-frame entry gets header and strip", however the input is cut into the two
-abbrev pub CalledFirst : List ℕ → Slices → Slices → Plan → Type 0
+abbrev pub CalledFirst : List ℕ → Slices → Slices → Result Plan Refusal → Type 0
 CalledFirst input before after plan = (header strip : List ℕ) → input ≡ header ++ strip → Called header none strip before after plan
 
 -- "then the other entry gets header, last accepted strip and strip"
-abbrev pub CalledNext : List ℕ → Slices → Slices → Plan → Type 0
+abbrev pub CalledNext : List ℕ → Slices → Slices → Result Plan Refusal → Type 0
 CalledNext input before after plan =
     (header old strip : List ℕ) → input ≡ header ++ (old ++ strip) → Called header (some old) strip before after plan

@@ -6,6 +6,7 @@ ghost use Rattle.planner.specs.Calls.{slices};
 ghost use Rattle.panels_calls.specs.Calls.{CalledFirst, CalledNext};
 
 use plans::Plan;
+use refusals::Refusal;
 
 // A first frame: header and strip. Any bytes and any lent space will do.
 pub fn first_frame(
@@ -23,7 +24,7 @@ pub fn first_frame(
     spare: &mut [u64],
     draft_regions: &mut [u32],
     draft_words: &mut [u32],
-) -> Plan
+) -> Result<Plan, Refusal>
     ensures { CalledFirst input.now (slices rects.old regions.old words.old boxes.old below.old items.old item_boxes.old glyph_items.old draft_rects.old work.old spare.old draft_regions.old draft_words.old) (slices rects.new regions.new words.new boxes.new below.new items.new item_boxes.new glyph_items.new draft_rects.new work.new spare.new draft_regions.new draft_words.new) result }
 {
     planner::plan_first(
@@ -60,7 +61,7 @@ pub fn next_frame(
     spare: &mut [u64],
     draft_regions: &mut [u32],
     draft_words: &mut [u32],
-) -> Plan
+) -> Result<Plan, Refusal>
     ensures { CalledNext input.now (slices rects.old regions.old words.old boxes.old below.old items.old item_boxes.old glyph_items.old draft_rects.old work.old spare.old draft_regions.old draft_words.old) (slices rects.new regions.new words.new boxes.new below.new items.new item_boxes.new glyph_items.new draft_rects.new work.new spare.new draft_regions.new draft_words.new) result }
 {
     planner::plan_next(

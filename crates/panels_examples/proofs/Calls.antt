@@ -44,7 +44,7 @@ pub record Worked : Type 0 where
   pub reads_one : commands_of (header ++ strip page_one) 12 ≡ page_one
   pub reads_two : commands_of (header ++ strip page_two) 12 ≡ page_two
   pub first : first_outcome (header ++ strip page_one) ≡ drafted (items 2) first_draft
-  pub cut : next_outcome (header ++ (strip page_one ++ (3 ∷ []))) ≡ turned 2 303
+  pub cut : next_outcome (header ++ (strip page_one ++ (3 ∷ []))) ≡ turned (refusal CutOff 303)
   pub turn : next_outcome (header ++ (strip page_one ++ strip page_two)) ≡ drafted (items 4) turn_draft
 
 pub worked : Worked

@@ -10,7 +10,6 @@ use Rattle.device.specs.declared.DeviceRegion.{DeviceRegion}
 use Rattle.commands.specs.Bounds.{Command}
 use Rattle.scheduler.specs.Schedule.{pixels_of}
 use Rattle.runtime.specs.Work.{work_of}
-use Rattle.plans.specs.declared.Plan.TheVariants.{Planned, Refused}
 use Rattle.plans.specs.Space.{Slices, lent_of}
 use Rattle.plans.specs.Answers.{items_fit, draft_fits, answer_of, accepted, index_words, published}
 use Rattle.painting.specs.Painters.{Pixel, Rules, GlyphRule}
@@ -32,18 +31,18 @@ abbrev pub two : List ℕ
 two = strip page_two
 
 -- ---- the answers
-pub first_planned : answer none first ≡ Planned 1 6 (work_of 2 2 64)
+pub first_planned : answer none first ≡ Ok (planned 1 6 (work_of 2 2 64))
 unfolding items_fit draft_fits pixels_of
 first_planned = ap (answer_of (lent_of (room 7))) worked.first
 
-pub cut_refused : answer (some one) cut ≡ Refused 2 303
+pub cut_refused : answer (some one) cut ≡ refused CutOff 303
 cut_refused = ap (answer_of (lent_of (room 7))) worked.cut
 
-pub crowded_refused : answer (some one) crowded ≡ Refused 10 0
+pub crowded_refused : answer (some one) crowded ≡ refused NoRoom 0
 unfolding items_fit draft_fits
 crowded_refused = ap (answer_of (lent_of (room 5))) worked.turn
 
-pub turn_planned : answer (some one) turn ≡ Planned 2 6 (work_of 2 2 33)
+pub turn_planned : answer (some one) turn ≡ Ok (planned 2 6 (work_of 2 2 33))
 unfolding items_fit draft_fits pixels_of
 turn_planned = ap (answer_of (lent_of (room 7))) worked.turn
 

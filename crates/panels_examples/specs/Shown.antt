@@ -4,7 +4,6 @@ use Rattle.std.proofs.Math.Option.{Option, none, some}
 use Rattle.painting.specs.Painters.{Rules, GlyphRule}
 use Rattle.runtime.specs.Work.{work_of}
 use Rattle.plans.specs.declared.Plan.{Plan}
-use Rattle.plans.specs.declared.Plan.TheVariants.{Planned, Refused}
 use Rattle.plans.specs.Space.{lent_of}
 use Rattle.plans.specs.Answers.{answer_of}
 use Rattle.panels.specs.Panels.{Frame, Used, Orders, start, Agree, State}
@@ -13,7 +12,7 @@ use Rattle.panels_examples.specs.Pages.{header, strip, page_one, page_two, cell}
 use Rattle.panels_examples.specs.Frames.{P, first, cut, crowded, turn, upper, lower, paint, mark, frames, before_turn, after, at}
 
 -- what a frame's call answers, with this last accepted strip if there is one
-abbrev pub answer : Option P.Strip → Frame P → Plan
+abbrev pub answer : Option P.Strip → Frame P → Result Plan Refusal
 answer last f = answer_of (lent_of f.space) (call_of header last f.strip)
 
 -- both panels show colour k at pixel (p, q), which is one of the screen
@@ -29,10 +28,10 @@ pub record Shown : Type 0 where
   pub reads_one : P.commands (strip page_one) ≡ page_one
   pub reads_two : P.commands (strip page_two) ≡ page_two
   -- "An answer is a number (0, at 0, when accepted) and a byte position"; where it is accepted, its rectangles, index words, commands, regions and pixels
-  pub first_planned : answer none first ≡ Planned 1 6 (work_of 2 2 64)
-  pub cut_refused : answer (some (strip page_one)) cut ≡ Refused 2 303
-  pub crowded_refused : answer (some (strip page_one)) crowded ≡ Refused 10 0
-  pub turn_planned : answer (some (strip page_one)) turn ≡ Planned 2 6 (work_of 2 2 33)
+  pub first_planned : answer none first ≡ Ok (planned 1 6 (work_of 2 2 64))
+  pub cut_refused : answer (some (strip page_one)) cut ≡ refused CutOff 303
+  pub crowded_refused : answer (some (strip page_one)) crowded ≡ refused NoRoom 0
+  pub turn_planned : answer (some (strip page_one)) turn ≡ Ok (planned 2 6 (work_of 2 2 33))
   pub turn_regions : P.regions (some (strip page_one)) turn.strip turn.space ≡ upper ∷ lower ∷ []
   -- what demand 3 asks of the painter, the letters and the orders
   pub rules : Rules 8 8 ℕ (Used P none frames) paint mark

@@ -11,7 +11,6 @@ use Rattle.lists.proofs.Picks.{pick_cases}
 use Rattle.lists.proofs.Bools.{holds, is_true}
 use Rattle.runtime.specs.declared.FrameWork.{FrameWork}
 use Rattle.plans.specs.declared.Plan.{Plan}
-use Rattle.plans.specs.declared.Plan.TheVariants.{Planned, Refused}
 use Rattle.plans.specs.Drafts.{Draft, Outcome, turned, drafted}
 use Rattle.plans.specs.Space.{Lent}
 use Rattle.plans.specs.Answers.{items_fit, draft_fits, counts, answer_of}
@@ -21,15 +20,15 @@ abbrev pub lent : Lent
 lent = record { commands = 1024; glyphs = 2048; clips = 2048; rects = 2048; regions = 4096; words = 16384 }
 
 -- how many regions and index words an answer counts, none where it is refused
-abbrev regions_in : Plan → ℕ
-regions_in (Planned n c w) = w.regions_transferred
-regions_in (Refused n p) = 0
+abbrev regions_in : Result Plan Refusal → ℕ
+regions_in (Ok plan) = plan.work.regions_transferred
+regions_in (Err why) = 0
 
-abbrev words_in : Plan → ℕ
-words_in (Planned n c w) = c
-words_in (Refused n p) = 0
+abbrev words_in : Result Plan Refusal → ℕ
+words_in (Ok plan) = plan.words
+words_in (Err why) = 0
 
-Fitting : Lent → Plan → Type 0
+Fitting : Lent → Result Plan Refusal → Type 0
 Fitting z r = (regions_in r ≤ z.regions) × (words_in r ≤ z.words)
 
 draft_fits_lem : (z : Lent) (d : Draft) → draft_fits z d ≡ true → (length d.regions ≤ z.regions) × (length d.words ≤ z.words)
@@ -43,13 +42,13 @@ draft_fits_lem z d e =
 
 answer_fits : (z : Lent) (o : Outcome) → Fitting z (answer_of z o)
 unfolding Fitting
-answer_fits z (turned n p) = (omega arith, omega arith)
+answer_fits z (turned why) = (omega arith, omega arith)
 answer_fits z (drafted i d) =
-    pick_cases (Fitting z) (items_fit z i && draft_fits z d) (counts d) (Refused 10 0)
+    pick_cases (Fitting z) (items_fit z i && draft_fits z d) (counts d) (refused NoRoom 0)
     (λ e. draft_fits_lem z d (is_true _ (and_r (items_fit z i) (draft_fits z d) (holds _ e))))
     (λ e. (omega arith, omega arith))
 
 pub planned_fits :
-    (z : Lent) (o : Outcome) (r : Plan) (n c : ℕ) (w : FrameWork) → r ≡ answer_of z o → r ≡ Planned n c w → (w.regions_transferred ≤ z.regions) × (c ≤ z.words)
+    (z : Lent) (o : Outcome) (r : Result Plan Refusal) (n c : ℕ) (w : FrameWork) → r ≡ answer_of z o → r ≡ Ok (planned n c w) → (w.regions_transferred ≤ z.regions) × (c ≤ z.words)
 unfolding Fitting
 planned_fits z o r n c w e f = subst (Fitting z) (sym e ∙ f) (answer_fits z o)

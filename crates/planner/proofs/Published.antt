@@ -14,7 +14,6 @@ use Rattle.geometry.specs.declared.Rect.{Rect}
 use Rattle.rect_list.specs.Rects as Rects
 use Rattle.scheduler.proofs.Writes.{words_length}
 use Rattle.plans.specs.declared.Plan.{Plan}
-use Rattle.plans.specs.declared.Plan.TheVariants.{Refused}
 use Rattle.plans.specs.Drafts.{Draft, Items, Outcome, turned, drafted}
 use Rattle.plans.specs.Space.{Lent, lent_of}
 use Rattle.plans.specs.Answers.{items_fit, draft_fits, counts, answer_of, rect_words, region_words, index_words, published}
@@ -63,7 +62,7 @@ module _ (z : Lent) (drs : List Float) (dgs dws : List ℕ) (rs : List Float) (g
     to_regions : 4 * z.regions ≤ length gs
     to_words : z.words ≤ length ws
 
-  none_copied : (n p : ℕ) → Copies (Refused n p) drs dgs dws rs gs ws
+  none_copied : (n p : ℕ) → Copies (Err why) drs dgs dws rs gs ws
   none_copied n p = record { from_rects = omega arith; from_regions = omega arith; from_words = omega arith; to_rects = omega arith; to_regions = omega arith; to_words = omega arith }
 
   draft_copied : (d : Draft) → Within z d → Long → Copies (counts d) drs dgs dws rs gs ws
@@ -77,15 +76,15 @@ module _ (z : Lent) (drs : List Float) (dgs dws : List ℕ) (rs : List Float) (g
   }
 
   copies_of : (o : Outcome) → Long → Copies (answer_of z o) drs dgs dws rs gs ws
-  copies_of (turned n p) l = none_copied n p
+  copies_of (turned why) l = none_copied (number why.fault) why.position
   copies_of (drafted i d) l =
-      pick_cases (λ r. Copies r drs dgs dws rs gs ws) (items_fit z i && draft_fits z d) (counts d) (Refused 10 0)
+      pick_cases (λ r. Copies r drs dgs dws rs gs ws) (items_fit z i && draft_fits z d) (counts d) (refused NoRoom 0)
       (λ e. draft_copied d (within z d (both_right (items_fit z i) (draft_fits z d) e)) l)
       (λ e. none_copied 10 0)
 
 -- ---- what is copied is what is published
-module _ (z : Lent) (o : Outcome) (r : Plan) (a : r ≡ answer_of z o) (rs : List Float) (gs ws : List ℕ) (s : StandsFor r o rs gs ws) (old-rs : List Float) (old-gs old-ws : List ℕ) where
-  abbrev Publishes : Outcome → Plan → Type 0
+module _ (z : Lent) (o : Outcome) (r : Result Plan Refusal) (a : r ≡ answer_of z o) (rs : List Float) (gs ws : List ℕ) (s : StandsFor r o rs gs ws) (old-rs : List Float) (old-gs old-ws : List ℕ) where
+  abbrev Publishes : Outcome → Result Plan Refusal → Type 0
   Publishes o r =
       (take (rect_count r) rs ++ drop (rect_count r) old-rs ≡ published r (rect_words o) old-rs)
       × ((take (region_count r) gs ++ drop (region_count r) old-gs ≡ published r (region_words o) old-gs)
@@ -101,15 +100,15 @@ module _ (z : Lent) (o : Outcome) (r : Plan) (a : r ≡ answer_of z o) (rs : Lis
   )
 
   published_of : (o : Outcome) → StandsFor (answer_of z o) o rs gs ws → Publishes o (answer_of z o)
-  published_of (turned n p) t = (refl, (refl, refl))
+  published_of (turned why) t = (refl, (refl, refl))
   published_of (drafted i d) t =
-      pick_cases (λ r. StandsFor r (drafted i d) rs gs ws → Publishes (drafted i d) r) (items_fit z i && draft_fits z d) (counts d) (Refused 10 0)
+      pick_cases (λ r. StandsFor r (drafted i d) rs gs ws → Publishes (drafted i d) r) (items_fit z i && draft_fits z d) (counts d) (refused NoRoom 0)
       (λ e t. draft_published i d (t refl))
       (λ e t. (refl, (refl, refl)))
       t
 
   publishes : Publishes o r
-  publishes = subst (Publishes o) (sym a) (published_of o (subst (λ (q : Plan). StandsFor q o rs gs ws) a s))
+  publishes = subst (Publishes o) (sym a) (published_of o (subst (λ (q : Result Plan Refusal). StandsFor q o rs gs ws) a s))
 
   -- so what the output holds after copying is published
   pub all_published : (x : List Float) (y v : List ℕ) → x ≡ take (rect_count r) rs ++ drop (rect_count r) old-rs → y ≡ take (region_count r) gs ++ drop (region_count r) old-gs → v ≡ take (word_count r) ws ++ drop (word_count r) old-ws → (x ≡ published r (rect_words o) old-rs) × ((y ≡ published r (region_words o) old-gs) × (v ≡ published r (index_words o) old-ws))
@@ -128,11 +127,11 @@ module _ (rs drs : List Float) (work spare gs dgs ws dws : List ℕ) (R G W : �
     word_room = omega (arith, word_room);
   }
 
-  module _ (bs : List Float) (ns is : List ℕ) (ibs : List Float) (glyphs : List ℕ) (o : Outcome) (r : Plan) (a : r ≡ answer_of (lent bs ns is ibs glyphs R G W) o) where
+  module _ (bs : List Float) (ns is : List ℕ) (ibs : List Float) (glyphs : List ℕ) (o : Outcome) (r : Result Plan Refusal) (a : r ≡ answer_of (lent bs ns is ibs glyphs R G W) o) where
     -- what stands in scratch after the draft can be copied
     pub copies : (drs' : List Float) (dgs' dws' : List ℕ) → length drs' ≡ length drs → length dgs' ≡ length dgs → length dws' ≡ length dws → Copies r drs' dgs' dws' rs gs ws
     copies drs' dgs' dws' p q t =
-        subst (λ (x : Plan). Copies x drs' dgs' dws' rs gs ws) (sym a)
+        subst (λ (x : Result Plan Refusal). Copies x drs' dgs' dws' rs gs ws) (sym a)
         (copies_of (lent bs ns is ibs glyphs R G W) drs' dgs' dws' rs gs ws o (record {
           from_rects = omega (arith, rect_room, p);
           from_regions = omega (arith, region_room, q);
@@ -148,11 +147,11 @@ module _ (rs drs : List Float) (work spare gs dgs ws dws : List ℕ) (R G W : �
 
 -- ---- copying and clearing
 -- the counts of a plan that is known
-pub planned : {p q : Plan} {drs : List Float} {dgs dws : List ℕ} {rs : List Float} {gs ws : List ℕ} → p ≡ q → Copies p drs dgs dws rs gs ws → Copies q drs dgs dws rs gs ws
-planned {drs = drs} {dgs = dgs} {dws = dws} {rs = rs} {gs = gs} {ws = ws} e k = subst (λ (x : Plan). Copies x drs dgs dws rs gs ws) e k
+pub planned : {p q : Result Plan Refusal} {drs : List Float} {dgs dws : List ℕ} {rs : List Float} {gs ws : List ℕ} → p ≡ q → Copies p drs dgs dws rs gs ws → Copies q drs dgs dws rs gs ws
+planned {drs = drs} {dgs = dgs} {dws = dws} {rs = rs} {gs = gs} {ws = ws} e k = subst (λ (x : Result Plan Refusal). Copies x drs dgs dws rs gs ws) e k
 
-pub copied : {A : Type 0} (f : Plan → ℕ) (p q : Plan) → p ≡ q → (new old : List A) → take (f q) new ++ drop (f q) old ≡ take (f p) new ++ drop (f p) old
-copied f p q e new old = ap (λ (x : Plan). take (f x) new ++ drop (f x) old) (sym e)
+pub copied : {A : Type 0} (f : Result Plan Refusal → ℕ) (p q : Result Plan Refusal) → p ≡ q → (new old : List A) → take (f q) new ++ drop (f q) old ≡ take (f p) new ++ drop (f p) old
+copied f p q e new old = ap (λ (x : Result Plan Refusal). take (f x) new ++ drop (f x) old) (sym e)
 
 -- a slice that kept its length is cleared as long as it was lent
 pub cleared : {A : Type 0} (v : A) (x after before : List A) → x ≡ replicate (length after) v → length after ≡ length before → x ≡ replicate (length before) v

@@ -3,7 +3,6 @@ use Rattle.std.specs.Prelude.{◌≡◌, List, ℕ, ◌*◌, ◌≤◌, length, 
 use Rattle.std.specs.Float.{binary64}
 use Rattle.std.specs.Float.Ieee.{of_bits}
 use Rattle.plans.specs.declared.Plan.{Plan}
-use Rattle.plans.specs.declared.Plan.TheVariants.{Planned, Refused}
 use Rattle.plans.specs.Space.{Slices}
 
 -- the slices in the order in which the entries take them
@@ -26,20 +25,20 @@ slices rects regions words boxes below items item_boxes glyphs draft_rects work 
     }
 
 -- how many words of each output a plan has
-abbrev pub rect_count : Plan → ℕ
-rect_count (Planned n k w) = 4 * n
-rect_count (Refused n p) = 0
+abbrev pub rect_count : Result Plan Refusal → ℕ
+rect_count (Ok plan) = 4 * plan.rects
+rect_count (Err why) = 0
 
-abbrev pub region_count : Plan → ℕ
-region_count (Planned n k w) = 4 * w.regions_transferred
-region_count (Refused n p) = 0
+abbrev pub region_count : Result Plan Refusal → ℕ
+region_count (Ok plan) = 4 * plan.work.regions_transferred
+region_count (Err why) = 0
 
-abbrev pub word_count : Plan → ℕ
-word_count (Planned n k w) = k
-word_count (Refused n p) = 0
+abbrev pub word_count : Result Plan Refusal → ℕ
+word_count (Ok plan) = plan.words
+word_count (Err why) = 0
 
 -- scratch and output have as many
-pub record Copies (plan : Plan) (draft_rects : List Float) (draft_regions draft_words : List ℕ) (rects : List Float) (regions words : List ℕ) : Type 0 where
+pub record Copies (plan : Result Plan Refusal) (draft_rects : List Float) (draft_regions draft_words : List ℕ) (rects : List Float) (regions words : List ℕ) : Type 0 where
   pub from_rects : rect_count plan ≤ length draft_rects
   pub from_regions : region_count plan ≤ length draft_regions
   pub from_words : word_count plan ≤ length draft_words

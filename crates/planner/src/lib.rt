@@ -9,6 +9,7 @@ ghost use Rattle.plans.specs.Answers as Answers;
 ghost use Rattle.planner.specs.Calls.{slices, rect_count, region_count, word_count, Copies, Zeros, ZeroFloats};
 
 use plans::Plan;
+use refusals::Refusal;
 
 // How many rectangles are lent, in the output and in scratch, with a working region each.
 fn rect_room(rects: &[f64], draft_rects: &[f64], work: &[u64], spare: &[u64]) -> usize
@@ -21,7 +22,7 @@ fn rect_room(rects: &[f64], draft_rects: &[f64], work: &[u64], spare: &[u64]) ->
 
 // Copies a plan that was accepted from scratch to the output.
 fn publish(
-    plan: Plan,
+    plan: Result<Plan, Refusal>,
     draft_rects: &[f64],
     draft_regions: &[u32],
     draft_words: &[u32],
@@ -34,14 +35,11 @@ fn publish(
     ensures scheduled { regions.new ≡ take (region_count plan) draft_regions.now ++ drop (region_count plan) regions.old }
     ensures index { words.new ≡ take (word_count plan) draft_words.now ++ drop (word_count plan) words.old }
 {
-    match plan {
-        Plan::Planned(n, count, work) => {
-            let region_count = work.regions_transferred as usize;
-            lists::copy_f64(draft_rects, 4 * n, rects);
-            lists::copy_u32(draft_regions, 4 * region_count, regions);
-            lists::copy_u32(draft_words, count, words);
-        }
-        Plan::Refused(_, _) => {}
+    if let Ok(accepted) = plan {
+        let region_count = accepted.work.regions_transferred as usize;
+        lists::copy_f64(draft_rects, 4 * accepted.rects, rects);
+        lists::copy_u32(draft_regions, 4 * region_count, regions);
+        lists::copy_u32(draft_words, accepted.words, words);
     }
 }
 
@@ -93,7 +91,7 @@ pub fn plan_first(
     spare: &mut [u64],
     draft_regions: &mut [u32],
     draft_words: &mut [u32],
-) -> Plan
+) -> Result<Plan, Refusal>
     ensures answer { result ≡ Answers.answer_of (lent_of (slices rects.old regions.old words.old boxes.old below.old items.old item_boxes.old glyph_items.old draft_rects.old work.old spare.old draft_regions.old draft_words.old)) (first_outcome input.now) }
     ensures rectangles { rects.new ≡ Answers.published result (Answers.rect_words (first_outcome input.now)) rects.old }
     ensures scheduled { regions.new ≡ Answers.published result (Answers.region_words (first_outcome input.now)) regions.old }
@@ -149,7 +147,7 @@ pub fn plan_next(
     spare: &mut [u64],
     draft_regions: &mut [u32],
     draft_words: &mut [u32],
-) -> Plan
+) -> Result<Plan, Refusal>
     ensures answer { result ≡ Answers.answer_of (lent_of (slices rects.old regions.old words.old boxes.old below.old items.old item_boxes.old glyph_items.old draft_rects.old work.old spare.old draft_regions.old draft_words.old)) (next_outcome input.now) }
     ensures rectangles { rects.new ≡ Answers.published result (Answers.rect_words (next_outcome input.now)) rects.old }
     ensures scheduled { regions.new ≡ Answers.published result (Answers.region_words (next_outcome input.now)) regions.old }

@@ -3,6 +3,9 @@ use mathlib.Core.Path.{◌≡◌, refl}
 use mathlib.Core.List.{List, [], ◌∷◌, ◌++◌}
 use Prim.Native.Nat.{ℕ}
 use lib.Ieee.{of_int, of_bits, to_bits, eq, lt, add, mul, div}
+use Rattle.std.specs.Prelude.{Ok}
+use Rattle.refusals.specs.declared.Fault.TheVariants.{CutOff, TrailingByte, NoRoom}
+use Rattle.refusals.specs.Table.{refused}
 use Rattle.affine.specs.Affines.{bounding_box, transform_rect_bbox, finite_point, all_finite, bound_finite, try_transform}
 use Rattle.bands.specs.Bands.{rect_at, rects_to, regions_of, cut_to, insert_by, sort_by, join_to, join, merge_overlapping}
 use Rattle.bands.specs.Keys.{pack, from_xy, from_yx}
@@ -30,10 +33,9 @@ use Rattle.strip.specs.Reading.{read_from, list_from}
 use Rattle.strip.specs.Steps.{due_fits, clip_step, pop_step, draw_step, run_step, last_step, glyph_step, effect_of, step_at}
 use Rattle.strip_format.specs.Format.{length_of, join_of, cap_of, command_at, glyphs_from}
 use Rattle.runtime.specs.Work.{work_of}
-use Rattle.plans.specs.declared.Plan.TheVariants.{Planned, Refused}
 use Rattle.plans.specs.Drafts.{first_outcome, next_outcome}
 use Rattle.plans.specs.Space.{Lent}
-use Rattle.plans.specs.Answers.{items_fit, draft_fits, answer_of}
+use Rattle.plans.specs.Answers.{items_fit, draft_fits, planned, answer_of}
 
 -- 8, 8 and 4, u32 each
 abbrev pub header : List ℕ
@@ -65,11 +67,11 @@ just regions = record { commands = 2; glyphs = 0; clips = 0; rects = 1; regions 
 
 -- the turn; the first frame; one region short; a byte behind; and nothing at all
 pub record Turn : Type 0 where
-  pub turn : answer_of (just 1) (next_outcome (header ++ square zero8 ++ square four8)) ≡ Planned 1 4 (work_of 1 1 12)
-  pub first : answer_of (just 2) (first_outcome (header ++ square zero8)) ≡ Planned 1 4 (work_of 1 2 64)
-  pub short : answer_of (just 1) (first_outcome (header ++ square zero8)) ≡ Refused 10 0
-  pub behind : answer_of (just 2) (first_outcome (header ++ square zero8 ++ (0 ∷ []))) ≡ Refused 8 110
-  pub empty : answer_of (just 1) (next_outcome []) ≡ Refused 2 0
+  pub turn : answer_of (just 1) (next_outcome (header ++ square zero8 ++ square four8)) ≡ Ok (planned 1 4 (work_of 1 1 12))
+  pub first : answer_of (just 2) (first_outcome (header ++ square zero8)) ≡ Ok (planned 1 4 (work_of 1 2 64))
+  pub short : answer_of (just 1) (first_outcome (header ++ square zero8)) ≡ refused NoRoom 0
+  pub behind : answer_of (just 2) (first_outcome (header ++ square zero8 ++ (0 ∷ []))) ≡ refused TrailingByte 110
+  pub empty : answer_of (just 1) (next_outcome []) ≡ refused CutOff 0
 
 -- other inputs are worked out by opening what is opened here: `unfolding worked`
 unfoldable pub worked : Turn

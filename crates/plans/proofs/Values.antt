@@ -6,6 +6,9 @@ use mathlib.Core.List.{List, [], ◌∷◌, map}
 use Prim.Native.Nat.{ℕ}
 use lib.Dec.{leb}
 use lib.ListN.{length}
+use Rattle.std.specs.Prelude.{Ok}
+use Rattle.refusals.specs.declared.Fault.TheVariants.{NoRoom}
+use Rattle.refusals.specs.Table.{refused}
 use Rattle.lists.specs.Pick.{pick}
 use Rattle.lists.specs.Places.{ByPlace}
 use Rattle.lists.proofs.Places.{place_length, place_map, place_mapped}
@@ -20,10 +23,9 @@ use Rattle.scheduler.specs.Schedule as Schedule
 use Rattle.scheduler.proofs.Values.{schedule_same}
 use Rattle.index_words.proofs.Values.{index_words_same}
 use Rattle.runtime.specs.Work.{work_of}
-use Rattle.plans.specs.declared.Plan.TheVariants.{Planned, Refused}
 use Rattle.plans.specs.Drafts.{Draft, draft, Items, drafted}
 use Rattle.plans.specs.Space.{Lent}
-use Rattle.plans.specs.Answers.{items_fit, draft_fits, counts, answer_of}
+use Rattle.plans.specs.Answers.{items_fit, draft_fits, planned, counts, answer_of}
 
 -- two drafts that only the signs of zero edges tell apart
 pub record SameDraft (d e : Draft) : Type 0 where
@@ -50,10 +52,10 @@ module _ (d e : Draft) (s : SameDraft d e) where
   fits_same z = λ i. leb (rect_count i) z.rects && (leb (length (s.regions i)) z.regions && leb (length (s.words i)) z.words)
 
   counts_same : counts d ≡ counts e
-  counts_same = λ i. Planned (rect_count i) (length (s.words i)) (work_of (s.emitted i) (length (s.regions i)) (Schedule.pixels_of (s.regions i)))
+  counts_same = λ i. Ok (planned (rect_count i) (length (s.words i)) (work_of (s.emitted i) (length (s.regions i)) (Schedule.pixels_of (s.regions i))))
 
   pub answer_same : (z : Lent) (i j : Items) → items_fit z i ≡ items_fit z j → answer_of z (drafted i d) ≡ answer_of z (drafted j e)
-  answer_same z i j f = λ k. pick (f k && fits_same z k) (counts_same k) (Refused 10 0)
+  answer_same z i j f = λ k. pick (f k && fits_same z k) (counts_same k) (refused NoRoom 0)
 
 -- ---- the words of rectangles
 pub rect_words_same : (l m : List Rect) → SameBoxes l m → ByPlace Same (Rects.words_of l) (Rects.words_of m)

@@ -1,12 +1,12 @@
-// What a call of the planner answers. Its meaning, from bytes and lent space alone, is in specs/.
+// What a call of the planner answers, unless it is turned away. Its meaning, from bytes and lent space alone, is in specs/.
 #![tactic(auto)]
 
 use runtime::FrameWork;
 
-// Planned, with the number of rectangles, the number of index words, and dew's counters of the frame; or refused, with the
-// number and position of document 01's table.
+// How many rectangles and how many index words a plan has, and dew's counters of the frame.
 #[derive(Clone, Copy)]
-pub enum Plan {
-    Planned(usize, usize, FrameWork),
-    Refused(u32, usize),
+pub struct Plan {
+    pub rects: usize,
+    pub words: usize,
+    pub work: FrameWork,
 }

@@ -2,7 +2,7 @@
 use Prim.Native.Nat.{◌<◌}
 use native.Mathlib.Omega.{arith}
 use Rattle.refusals.specs.declared.Fault.{Fault}
-use Rattle.refusals.specs.declared.Fault.TheVariants.{Size, CutOff, UnknownCode, NotFinite, NoOpenClip, TooMany, GlyphOrder, TrailingByte, UnboundedBox, NoRoom, NoRow}
+use Rattle.refusals.specs.declared.Fault.TheVariants.{Size, CutOff, UnknownCode, NotFinite, NoOpenClip, TooMany, GlyphOrder, TrailingByte, BoxNotFinite, NoRoom, NoRow}
 use Rattle.refusals.specs.Table.{number}
 
 pub number_positive : (f : Fault) → 0 < number f
@@ -14,6 +14,6 @@ number_positive NoOpenClip = omega arith
 number_positive TooMany = omega arith
 number_positive GlyphOrder = omega arith
 number_positive TrailingByte = omega arith
-number_positive UnboundedBox = omega arith
+number_positive BoxNotFinite = omega arith
 number_positive NoRoom = omega arith
 number_positive NoRow = omega arith

@@ -1,7 +1,7 @@
 -- The numbers of the table, in the code's words for its cases.
 use Rattle.std.specs.Prelude.{ℕ, Result, Err}
 use Rattle.refusals.specs.declared.Fault.{Fault}
-use Rattle.refusals.specs.declared.Fault.TheVariants.{Size, CutOff, UnknownCode, NotFinite, NoOpenClip, TooMany, GlyphOrder, TrailingByte, UnboundedBox, NoRoom, NoRow}
+use Rattle.refusals.specs.declared.Fault.TheVariants.{Size, CutOff, UnknownCode, NotFinite, NoOpenClip, TooMany, GlyphOrder, TrailingByte, BoxNotFinite, NoRoom, NoRow}
 use Rattle.refusals.specs.declared.Refusal.{Refusal}
 
 abbrev pub number : Fault → ℕ
@@ -22,7 +22,7 @@ number GlyphOrder = 7
 -- "a byte follows"
 number TrailingByte = 8
 -- "a box's inflated edge or transformed corner is not finite"
-number UnboundedBox = 9
+number BoxNotFinite = 9
 -- "commands, glyphs, clips, rectangles, regions or index words exceed the space lent"
 number NoRoom = 10
 -- "the index words lack the starts, or the row's two starts fall or pass the entries"

@@ -24,7 +24,7 @@ pub enum Fault {
     // A byte follows the end.
     TrailingByte,
     // An inflated edge or a transformed corner of a box is not finite.
-    UnboundedBox,
+    BoxNotFinite,
     // The space lent is too small.
     NoRoom,
     // The index words do not have the region's row.
@@ -52,7 +52,7 @@ impl Fault {
             Fault::TooMany => 6,
             Fault::GlyphOrder => 7,
             Fault::TrailingByte => 8,
-            Fault::UnboundedBox => 9,
+            Fault::BoxNotFinite => 9,
             Fault::NoRoom => 10,
             Fault::NoRow => 11,
         }

@@ -6,9 +6,9 @@ use Rattle.plans.specs.Space.{Slices, lent_of}
 use Rattle.plans.specs.Answers.{answer_of}
 
 -- of a first frame: header and one strip
-abbrev pub first_plan : Slices → List ℕ → Plan
+abbrev pub first_plan : Slices → List ℕ → Result Plan Refusal
 first_plan z s = answer_of (lent_of z) (first_outcome s)
 
 -- of a frame after another: header, the last accepted strip and the new one
-abbrev pub next_plan : Slices → List ℕ → Plan
+abbrev pub next_plan : Slices → List ℕ → Result Plan Refusal
 next_plan z s = answer_of (lent_of z) (next_outcome s)

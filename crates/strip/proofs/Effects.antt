@@ -8,7 +8,7 @@ use lib.ListN.{length, get_or}
 use borrow.Author.Tests.{le-leb, lt-leb, lt-ltb, le-ltb, eq-eqb, ne_eqb, eqb-true, eqb-false, ltb-true}
 use lib.Dec.{eqb}
 use Rattle.refusals.specs.declared.Fault.{Fault}
-use Rattle.refusals.specs.declared.Fault.TheVariants.{CutOff, UnknownCode, NoOpenClip, TooMany, GlyphOrder, UnboundedBox}
+use Rattle.refusals.specs.declared.Fault.TheVariants.{CutOff, UnknownCode, NoOpenClip, TooMany, GlyphOrder, BoxNotFinite}
 use Rattle.refusals.specs.declared.Refusal.{Refusal}
 use Rattle.refusals.specs.Table.{refused}
 use Rattle.lists.proofs.Picks.{pick_true, pick_false}
@@ -82,7 +82,7 @@ module _ (s : List ℕ) (st : Cursor) where
     pub glyph_box : (own : Rect) → b ≡ rect_at s (st.at + 13) → st.glyphs < 16384 → r ≡ Some own → last_step s st b ≡ glyph_step s st
     glyph_box own u h k = sym (glyph_by u h ∙ ap (λ (t : Option Rect). on_box st.at t (λ own. last_step s st b)) k)
 
-    pub glyph_not_finite : b ≡ rect_at s (st.at + 13) → st.glyphs < 16384 → r ≡ None → refused UnboundedBox st.at ≡ glyph_step s st
+    pub glyph_not_finite : b ≡ rect_at s (st.at + 13) → st.glyphs < 16384 → r ≡ None → refused BoxNotFinite st.at ≡ glyph_step s st
     glyph_not_finite u h k = sym (glyph_by u h ∙ ap (λ (t : Option Rect). on_box st.at t (λ own. last_step s st b)) k)
 
   pub glyph_many : 16384 ≤ st.glyphs → refused TooMany st.at ≡ glyph_step s st

@@ -6,7 +6,7 @@ use Prim.Native.Nat.{ℕ, zero, suc, ◌+◌, ◌≤◌, ◌<◌}
 use native.Mathlib.Omega.{arith}
 use borrow.Author.Tests.{lt-ltb, eq-eqb, ne_eqb}
 use lib.Dec.{leb, eqb}
-use Rattle.refusals.specs.declared.Fault.TheVariants.{TooMany, UnboundedBox}
+use Rattle.refusals.specs.declared.Fault.TheVariants.{TooMany, BoxNotFinite}
 use Rattle.refusals.specs.Table.{refused}
 use Rattle.lists.specs.Pick.{pick}
 use Rattle.lists.proofs.Picks.{pick_true, pick_false, pick_map}
@@ -32,7 +32,7 @@ module _ (e : Effect) (t : Cursor) (o at : ℕ) (m : Affine) (b : Rect) (r : Opt
   pub settled_box : (w : Rect) → r ≡ Some w → Ok (Draw t o w) ≡ settle e
   settled_box w f = sym (ap settle p ∙ ap (λ (x : Option Rect). on_box at x (λ v. Ok (Draw t o v))) (sym q ∙ f))
 
-  pub settled_not_finite : r ≡ None → refused UnboundedBox at ≡ settle e
+  pub settled_not_finite : r ≡ None → refused BoxNotFinite at ≡ settle e
   settled_not_finite f = sym (ap settle p ∙ ap (λ (x : Option Rect). on_box at x (λ v. Ok (Draw t o v))) (sym q ∙ f))
 
 -- ---- the last glyph of a run, and one that is not
@@ -71,7 +71,7 @@ module _ (s : List ℕ) where
       pub corners_finite : finite_corners (transform_of (command_at s st.run)) b ≡ true → last_step s st b ≡ glyph_step s st
       corners_finite t = glyph_box s st b _ refl _ e h (corners_yes (transform_of (command_at s st.run)) b t)
 
-      pub corners_not_finite : finite_corners (transform_of (command_at s st.run)) b ≡ false → refused UnboundedBox st.at ≡ glyph_step s st
+      pub corners_not_finite : finite_corners (transform_of (command_at s st.run)) b ≡ false → refused BoxNotFinite st.at ≡ glyph_step s st
       corners_not_finite t = glyph_not_finite s st b _ refl e h (corners_no (transform_of (command_at s st.run)) b t)
 
     -- ---- a glyph that only moves the cursor

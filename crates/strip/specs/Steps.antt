@@ -1,6 +1,6 @@
 -- One step of reading: the command at the cursor is turned away, or the cursor moves past it. The checks stand in the table's order.
 use Rattle.refusals.specs.declared.Fault.{Fault}
-use Rattle.refusals.specs.declared.Fault.TheVariants.{CutOff, UnknownCode, NoOpenClip, TooMany, GlyphOrder, UnboundedBox}
+use Rattle.refusals.specs.declared.Fault.TheVariants.{CutOff, UnknownCode, NoOpenClip, TooMany, GlyphOrder, BoxNotFinite}
 use Rattle.refusals.specs.declared.Refusal.{Refusal}
 use Rattle.refusals.specs.Table.{refused}
 use Rattle.std.specs.Prelude.{◌≡◌, Bool, List, ℕ, ◌+◌, ◌-◌, leb, ltb, eqb, length, get_or, Option, Some, None, Result, Ok, Err}
@@ -29,7 +29,7 @@ due_fits b due = pick (eqb b 6) (ltb 0 due) (eqb due 0)
 -- 9: "a box's inflated edge or transformed corner is not finite"
 abbrev pub on_box : ℕ → Option Rect → (Rect → Result Step Refusal) → Result Step Refusal
 on_box at (Some box) k = k box
-on_box at None k = refused UnboundedBox at
+on_box at None k = refused BoxNotFinite at
 
 -- 3 and 4 of operands are found at the command
 abbrev pub on_operands : ℕ → Result (Unit {0}) Fault → Result Step Refusal → Result Step Refusal

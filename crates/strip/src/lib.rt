@@ -210,7 +210,7 @@ impl Cursor {
         if transform.finite_corners(bounds) {
             Ok(self.last(transform, bounds))
         } else {
-            Err(Fault::UnboundedBox.at(at))
+            Err(Fault::BoxNotFinite.at(at))
         }
     }
 }
@@ -308,7 +308,7 @@ fn settle(effect: Effect) -> Result<Step, Refusal>
         Effect::Drawn(next, offset, at, transform, bounds) => {
             match transform.try_transform(bounds) {
                 Some(transformed) => Ok(Step::Draw(next, offset, transformed)),
-                None => Err(Fault::UnboundedBox.at(at)),
+                None => Err(Fault::BoxNotFinite.at(at)),
             }
         }
         Effect::Done(step) => Ok(step),

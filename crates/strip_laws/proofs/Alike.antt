@@ -9,6 +9,8 @@ use lib.ListN.{length, get_or}
 use lib.Ieee.{binary32, binary64, of_bits}
 use lib.Ieee.Scale.{finite}
 use borrow.Author.Tests.{le-leb, eqb-true}
+use Rattle.std.specs.Prelude.{Err}
+use Rattle.refusals.specs.declared.Fault.TheVariants.{UnknownCode}
 use Rattle.lists.specs.Pick.{pick}
 use Rattle.little_endian.specs.Same.{SameBytes}
 use Rattle.little_endian.proofs.Parts.{part, part_same, part_length, part_twice}
@@ -18,11 +20,7 @@ use Rattle.strip_format.specs.Format.{length_of, fill_at, stroke_path_at, run_at
 use Rattle.strip_format.proofs.Alike.{rect_same, affine_same, stroke_same}
 use Rattle.strip_format.proofs.Lengths.{length_pos, length_clip, length_fill, length_stroke, length_run, length_glyph, length_scene}
 use Rattle.strip.proofs.Moves.{at_byte}
-use Rattle.operand_checks.specs.Operands.{finite_from, finite_f32, finite_stroke, finite_run, finite_glyph, codes_fit, operands_at}
-
--- number 4 where a test fails
-abbrev four : Bool → ℕ
-four t = pick t 0 4
+use Rattle.operand_checks.specs.Operands.{finite_from, finite_f32, finite_stroke, finite_run, finite_glyph, codes_fit, floats_pass, operands_at}
 
 pick_both : {A : Type 0} (t : Bool) (x y z w : A) → (t ≡ true → x ≡ z) → (t ≡ false → y ≡ w) → pick t x y ≡ pick t z w
 pick_both true x y z w f g = f refl
@@ -94,8 +92,8 @@ module _ (s r : List ℕ) (by n : ℕ) (same : (i j : ℕ) → j ≡ by + i → 
   pub operands_same : (at to b : ℕ) → to ≡ by + at → at + length_of b ≤ n → operands_at s at b ≡ operands_at r to b
   unfolding operands_at finite_stroke finite_run finite_glyph
   operands_same at to b v h =
-      pick_both (eqb b 1) _ _ _ _ (λ t. let k = at_byte at n b 1 h (eqb-true b 1 t) in ap four (finite_same 4 (at + 1) (to + 1) (omega arith) (omega (arith, k, length_clip))))
-      λ t. pick_both (eqb b 3) _ _ _ _ (λ t. let k = at_byte at n b 3 h (eqb-true b 3 t) in ap four (finite_same 10 (at + 9) (to + 9) (omega arith) (omega (arith, k, length_fill))))
+      pick_both (eqb b 1) _ _ _ _ (λ t. let k = at_byte at n b 1 h (eqb-true b 1 t) in ap floats_pass (finite_same 4 (at + 1) (to + 1) (omega arith) (omega (arith, k, length_clip))))
+      λ t. pick_both (eqb b 3) _ _ _ _ (λ t. let k = at_byte at n b 3 h (eqb-true b 3 t) in ap floats_pass (finite_same 10 (at + 9) (to + 9) (omega arith) (omega (arith, k, length_fill))))
       λ t. pick_both (eqb b 4) _ _ _ _ (λ t. let k : at + 124 ≤ n = omega (arith, at_byte at n b 4 h (eqb-true b 4 t), length_stroke) in
       let j = same (at + 105) (to + 105) (omega arith) (omega arith) in
       let p = same (at + 114) (to + 114) (omega arith) (omega arith) in
@@ -103,18 +101,18 @@ module _ (s r : List ℕ) (by n : ℕ) (same : (i j : ℕ) → j ≡ by + i → 
       let u = finite_same 10 (at + 9) (to + 9) (omega arith) (omega arith) in
       let y = finite_same 1 (at + 97) (to + 97) (omega arith) (omega arith) in
       let w = finite_same 1 (at + 106) (to + 106) (omega arith) (omega arith) in
-      λ i. pick (codes_fit (j i) (p i) (q i)) (four (u i && (y i && w i))) 3)
+      λ i. pick (codes_fit (j i) (p i) (q i)) (floats_pass (u i && (y i && w i))) (Err UnknownCode))
       λ t. pick_both (eqb b 5) _ _ _ _ (λ t. let k : at + 103 ≤ n = omega (arith, at_byte at n b 5 h (eqb-true b 5 t), length_run) in
       let u = single_same (at + 9) (to + 9) (omega arith) (omega arith) in
       let y = finite_same 6 (at + 13) (to + 13) (omega arith) (omega arith) in
       let w = finite_same 4 (at + 69) (to + 69) (omega arith) (omega arith) in
-      ap four (λ i. u i && (y i && w i)))
+      ap floats_pass (λ i. u i && (y i && w i)))
       λ t. pick_both (eqb b 6) _ _ _ _ (λ t. let k : at + 45 ≤ n = omega (arith, at_byte at n b 6 h (eqb-true b 6 t), length_glyph) in
       let u = single_same (at + 5) (to + 5) (omega arith) (omega arith) in
       let y = single_same (at + 9) (to + 9) (omega arith) (omega arith) in
       let w = finite_same 4 (at + 13) (to + 13) (omega arith) (omega arith) in
-      ap four (λ i. u i && (y i && w i)))
-      λ t. pick_both (eqb b 7) _ _ _ _ (λ t. let k = at_byte at n b 7 h (eqb-true b 7 t) in ap four (finite_same 10 (at + 25) (to + 25) (omega arith) (omega (arith, k, length_scene)))) (λ t. refl)
+      ap floats_pass (λ i. u i && (y i && w i)))
+      λ t. pick_both (eqb b 7) _ _ _ _ (λ t. let k = at_byte at n b 7 h (eqb-true b 7 t) in ap floats_pass (finite_same 10 (at + 25) (to + 25) (omega arith) (omega (arith, k, length_scene)))) (λ t. refl)
 
 -- bytes that stand twice, and are a command's, are the same command
 pub command_twice : (s : List ℕ) (p q n : ℕ) → SameBytes s p q n → length_of (get_or s p 0) ≤ n → p + n ≤ length s → q + n ≤ length s → command_at s p ≡ command_at s q

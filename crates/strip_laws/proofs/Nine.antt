@@ -8,6 +8,8 @@ use native.Mathlib.Omega.{arith}
 use lib.Dec.{leb, ltb, eqb}
 use lib.ListN.{length, get_or}
 use borrow.Author.Tests.{lt-leb, leb-true, leb-false, ltb-true, ltb-false, eq-eqb, eqb-true, eqb-false}
+use Rattle.refusals.specs.Table.{number}
+use Rattle.refusals.specs.declared.Fault.TheVariants.{BoxNotFinite}
 use Rattle.refusals.specs.declared.Refusal.{Refusal}
 use Rattle.refusals.specs.Table.{refused}
 use Rattle.lists.proofs.Picks.{pick_true, pick_false, pick_cases}
@@ -121,7 +123,7 @@ module _ (s : List ℕ) (st : Cursor) where
       (λ e n. absurd (omega (arith, n))))
       (λ e n. absurd (omega (arith, n)))
 
-  pub given_nine : (p : ℕ) → step_at s st ≡ refused UnboundedBox p → (p ≡ st.at) × (NoneBefore s st × Nine s st)
+  pub given_nine : (p : ℕ) → step_at s st ≡ refused BoxNotFinite p → (p ≡ st.at) × (NoneBefore s st × Nine s st)
   given_nine p e = let h = step_told (ap number_in e) in (sym (ap place_in e) ∙ h.0, h.1)
 
   -- ---- such a case is given 9
@@ -129,7 +131,7 @@ module _ (s : List ℕ) (st : Cursor) where
     effect_is : step_at s st ≡ effect_of s st (byte_at s st)
     effect_is = sym (step_effect s st (byte_at s st) refl w.byte w.known w.due (omega (arith, w.byte, w.room)) w.operands)
 
-    drawn_nine : Draws (byte_at s st) → DrawnUnbounded s st → step_at s st ≡ refused UnboundedBox st.at
+    drawn_nine : Draws (byte_at s st) → DrawnUnbounded s st → step_at s st ≡ refused BoxNotFinite st.at
     unfolding draw_step
     drawn_nine d u =
         effect_is
@@ -141,21 +143,21 @@ module _ (s : List ℕ) (st : Cursor) where
     unfolding glyph_step
     own_glyph six = effect_is ∙ sym (effect_glyph s st (byte_at s st) six) ∙ pick_false (leb 16384 st.glyphs) _ _ (lt-leb 16384 st.glyphs (w.glyphs six))
 
-    last_nine : st.due ≡ 1 → UnboundedBox (transform_of (command_at s st.run)) (unite st (rect_at s (st.at + 13))) → last_step s st (rect_at s (st.at + 13)) ≡ refused UnboundedBox st.at
+    last_nine : st.due ≡ 1 → UnboundedBox (transform_of (command_at s st.run)) (unite st (rect_at s (st.at + 13))) → last_step s st (rect_at s (st.at + 13)) ≡ refused BoxNotFinite st.at
     unfolding last_step
     last_nine one u =
         pick_true (eqb st.due 1) _ _ (eq-eqb _ _ one)
         ∙ ap (λ (r : Option Rect). on_box st.at r (λ whole. Ok (Draw (glyph_read st (rect_at s (st.at + 13))) st.run whole))) (unbounded_no_box _ _ u)
 
-    glyph_nine : byte_at s st ≡ 6 → GlyphUnbounded s st → step_at s st ≡ refused UnboundedBox st.at
+    glyph_nine : byte_at s st ≡ 6 → GlyphUnbounded s st → step_at s st ≡ refused BoxNotFinite st.at
     glyph_nine six (inl u) = own_glyph six ∙ ap (λ (r : Option Rect). on_box st.at r (λ own. last_step s st (rect_at s (st.at + 13)))) (unbounded_no_box _ _ u)
     glyph_nine six (inr (one, u)) = own_glyph six ∙ either (try_transform (transform_of (command_at s st.run)) (rect_at s (st.at + 13)))
       where
         -- whatever its own box comes to
-        either : (r : Option Rect) → on_box st.at r (λ own. last_step s st (rect_at s (st.at + 13))) ≡ refused UnboundedBox st.at
+        either : (r : Option Rect) → on_box st.at r (λ own. last_step s st (rect_at s (st.at + 13))) ≡ refused BoxNotFinite st.at
         either (Some own) = last_nine one u
         either None = refl
 
-    pub nine_given : Nine s st → step_at s st ≡ refused UnboundedBox st.at
+    pub nine_given : Nine s st → step_at s st ≡ refused BoxNotFinite st.at
     nine_given (inl (d, u)) = drawn_nine d u
     nine_given (inr (six, u)) = glyph_nine six u

@@ -8,7 +8,7 @@ use lib.Dec.{leb, ltb, eqb}
 use lib.ListN.{length, get_or}
 use borrow.Author.Tests.{le-leb, leb-false, ltb-true, ltb-false, eqb-true, eqb-false}
 use Rattle.refusals.specs.declared.Fault.{Fault}
-use Rattle.refusals.specs.declared.Fault.TheVariants.{CutOff, UnknownCode, NoOpenClip, TooMany, GlyphOrder, UnboundedBox}
+use Rattle.refusals.specs.declared.Fault.TheVariants.{CutOff, UnknownCode, NoOpenClip, TooMany, GlyphOrder, BoxNotFinite}
 use Rattle.refusals.specs.declared.Refusal.{Refusal}
 use Rattle.refusals.specs.Table.{refused, refusal}
 use Rattle.lists.proofs.Picks.{pick_false, pick_cases}
@@ -79,7 +79,7 @@ pub record Cases (s : List ℕ) (st : Cursor) (M : Result Step Refusal → Type 
 module _ (s : List ℕ) (st : Cursor) (M : Result Step Refusal → Type 0) (cases : Cases s st M) where
   on_box_lem : (r : Option Rect) (k : Rect → Result Step Refusal) → ((box : Rect) → r ≡ Some box → M (k box)) → M (on_box st.at r k)
   on_box_lem (Some box) k h = h box refl
-  on_box_lem None k h = cases.refused UnboundedBox st.at
+  on_box_lem None k h = cases.refused BoxNotFinite st.at
 
   of_clip : st.due ≡ 0 → M (clip_step s st)
   unfolding clip_step
