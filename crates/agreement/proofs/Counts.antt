@@ -5,6 +5,10 @@ use mathlib.Core.List.{List, [], ◌∷◌}
 use Prim.Native.Nat.{ℕ, ◌+◌}
 use lib.Dec.{leb, ltb}
 use lib.ListN.{length}
+use Rattle.std.specs.Prelude.{Result, Ok, Err}
+use Rattle.refusals.specs.declared.Fault.TheVariants.{TrailingByte}
+use Rattle.refusals.specs.declared.Refusal.{Refusal}
+use Rattle.refusals.specs.Table.{refused}
 use Rattle.lists.specs.Places.{ByPlace}
 use Rattle.lists.proofs.Picks.{pick_cases}
 use Rattle.lists.proofs.Places.{place_length}
@@ -17,7 +21,7 @@ use Rattle.strip.specs.declared.Cursor.{Cursor}
 use Rattle.strip.specs.Reading.{read_strip, commands_of}
 use Rattle.strip_laws.specs.Limits.{WhereRead}
 use Rattle.strip_laws.proofs.Counts.{glyph_total, Counted, strip_counted}
-use Rattle.frame.specs.Frame.{ended, then_new, then_end, then_strips, first_of, both_of}
+use Rattle.frame.specs.Frame.{strips, ended, with_old, then_new, then_end, then_strips, first_of, both_of}
 use Rattle.plans.specs.Space.{Lent}
 use Rattle.plans.specs.Drafts.{Items}
 use Rattle.plans.specs.Answers.{items_fit}
@@ -31,7 +35,7 @@ WhereOne s (Ok c) = Counted (commands_of s 12) c
 WhereOne s (Err why) = Unit {0}
 
 first_counted : (s : List ℕ) (c : Cursor) → first_of s ≡ Ok c → Counted (commands_of s 12) c
-unfolding first_of
+unfolding first_of ended
 first_counted s c e = subst (WhereOne s) e (go (read_strip s 12) (strip_counted s 12))
   where
     go : (x : Result Cursor Refusal) → WhereRead (Counted (commands_of s 12)) x → WhereOne s (then_end s x)
@@ -47,7 +51,7 @@ unfolding both_of ended
 both_counted s old new e = subst (WhereBoth s) e (go (read_strip s 12) (strip_counted s 12))
   where
     behind : (old : Cursor) → Counted (commands_of s 12) old → (x : Result Cursor Refusal) → WhereRead (Counted (commands_of s old.at)) x → WhereBoth s (then_new s old x)
-    behind old h (Ok new) k = pick_cases (WhereBoth s) (ltb new.at (length s)) (refused TrailingByte new.at) (Ok (strips old new)) (λ f. tt) (λ f. (h, k))
+    behind old h (Ok new) k = pick_cases (λ (x : Result Cursor Refusal). WhereBoth s (with_old old x)) (ltb new.at (length s)) (refused TrailingByte new.at) (Ok new) (λ f. tt) (λ f. (h, k))
     behind old h (Err why) k = tt
 
     go : (x : Result Cursor Refusal) → WhereRead (Counted (commands_of s 12)) x → WhereBoth s (then_strips s x)

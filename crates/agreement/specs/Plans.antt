@@ -1,12 +1,12 @@
 -- "Only the sign of a zero edge is open here": inputs whose commands agree get the same number, position and counts, the same regions and index words, and
 -- rectangles whose edges differ at most in the sign of a zero. Nothing is assumed of their floats. Inputs that are turned away for their bytes are left out:
 -- a position counts bytes, and those may differ where commands agree.
-use Rattle.std.specs.Prelude.{◌≡◌, List, ℕ, ◌+◌, leb}
+use Rattle.std.specs.Prelude.{◌≡◌, List, ℕ, ◌+◌, leb, Ok}
 use Rattle.lists.specs.Places.{ByPlace}
 use Rattle.ieee.specs.Values.{Same}
 use Rattle.strip.specs.declared.Cursor.{Cursor}
 use Rattle.strip.specs.Reading.{commands_of}
-use Rattle.frame.specs.Frame.{header_of, first_of, both_of}
+use Rattle.frame.specs.Frame.{strips, header_of, first_of, both_of}
 use Rattle.plans.specs.Drafts.{Outcome, first_outcome, next_outcome}
 use Rattle.plans.specs.Space.{Lent}
 use Rattle.plans.specs.Answers.{answer_of, rect_words, region_words, index_words}

@@ -6,7 +6,7 @@ ghost use Rattle.candidates.specs.Table as Table;
 ghost use Rattle.plans.specs.Answers as Answers;
 ghost use Rattle.answer_words.specs.Words.{overwritten, answer_words, part_words};
 
-use candidates::Lookup;
+use candidates::Part;
 use plans::Plan;
 use refusals::Refusal;
 
@@ -50,20 +50,20 @@ pub fn put_plan(plan: Result<Plan, Refusal>, answer: &mut [u64]) -> u32
 }
 
 // Writes where a row's entries begin and end, and hands back the number.
-pub fn put_part(found: Lookup, part: &mut [u64]) -> u32
+pub fn put_part(found: Result<Part, Refusal>, part: &mut [u64]) -> u32
     ensures number { result ≡ Table.number_of found }
     ensures words { part.new ≡ overwritten (part_words found) part.old }
 {
     match found {
-        Lookup::Part(start, end) => {
-            let words = [start as u64, end as u64];
+        Ok(row) => {
+            let words = [row.start as u64, row.end as u64];
             overwrite(&words, part);
             0
         }
-        Lookup::Refused(number) => {
+        Err(why) => {
             let words = [0, 0];
             overwrite(&words, part);
-            number
+            why.fault.number()
         }
     }
 }

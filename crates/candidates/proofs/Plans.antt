@@ -22,16 +22,17 @@ use Rattle.index_words.proofs.Starts.{start_next, start_at, entries_at, ends_wit
 use Rattle.index_words.proofs.Places.{touch_stands}
 use Rattle.index_words.specs.Painting.{paint_all, paint_at}
 use Rattle.index_words.proofs.Painting.{Silent, row_paints}
-use Rattle.candidates.specs.declared.Lookup.{Lookup}
-use Rattle.candidates.specs.declared.Lookup.TheVariants.{Part}
-use Rattle.candidates.specs.Table.{bad_size, bad_sizes, bad_row, find_row, find, part_of, candidates, number_of, refusal}
+use Rattle.std.specs.Prelude.{Result, Ok}
+use Rattle.refusals.specs.declared.Refusal.{Refusal}
+use Rattle.candidates.specs.declared.Part.{Part}
+use Rattle.candidates.specs.Table.{bad_size, bad_sizes, bad_row, part, find_row, find, part_of, candidates, number_of, refusal}
 
 size_good : (n : ℕ) → Size n → bad_size n ≡ false
 unfolding bad_size
 size_good n s = simp (ne_eqb n 0 (λ z. omega (arith, s.some)), le-ltb 32768 n s.limit)
 
 -- two starts that neither fall nor pass the entries
-found_between : (rows r a c : ℕ) (words : List ℕ) → r < rows → get_or words r 0 ≡ a → get_or words (r + 1) 0 ≡ c → a ≤ c → rows + 1 + c ≤ length words → find_row rows r words ≡ Part (rows + 1 + a) (rows + 1 + c)
+found_between : (rows r a c : ℕ) (words : List ℕ) → r < rows → get_or words r 0 ≡ a → get_or words (r + 1) 0 ≡ c → a ≤ c → rows + 1 + c ≤ length words → find_row rows r words ≡ Ok (part (rows + 1 + a) (rows + 1 + c))
 unfolding find_row bad_row
 found_between rows r a c words h ea ec ac l =
     rw (ea, ec) (simp (lt-leb rows r h, lt-leb (length words) rows (omega arith), le-ltb c a ac, le-ltb (length words - (rows + 1)) c (omega arith)))
@@ -49,7 +50,7 @@ module _ (width height band y : ℕ) (boxes : List Rect) (rest : List ℕ) (W : 
   in_rows : y / band < rows
   in_rows = omega (arith, row_below height band y B.some Y, rows_size height band H B)
 
-  found : find width height band y words ≡ Part (rows + 1 + start_of row (y / band)) (rows + 1 + start_of row (y / band + 1))
+  found : find width height band y words ≡ Ok (part (rows + 1 + start_of row (y / band)) (rows + 1 + start_of row (y / band + 1)))
   unfolding find bad_sizes index_words
   found =
       let h : y / band < row_count height band = in_rows in
@@ -69,7 +70,7 @@ module _ (width height band y : ℕ) (boxes : List Rect) (rest : List ℕ) (W : 
   unfolding index_words
   plan_row =
       let k : rows + 1 + start_of row (y / band + 1) - (rows + 1 + start_of row (y / band)) ≡ length (row (y / band)) = omega (arith, start_next row (y / band)) in
-      ap (λ (p : Lookup). part_of p words) found
+      ap (λ (p : Result Part Refusal). part_of p words) found
       ∙ ap (λ (n : ℕ). take n (drop (rows + 1 + start_of row (y / band)) words)) k
       ∙ entries_at row rows rest (y / band) in_rows
 

@@ -1,9 +1,11 @@
 -- Document 01's table at `candidates`, for any numbers and any words.
-use Rattle.std.specs.Prelude.{Bool, ◌||◌, ℕ, ◌+◌, ◌-◌, ◌/◌, List, [], length, get_or, take, drop, leb, ltb, eqb}
+use Rattle.std.specs.Prelude.{Bool, ◌||◌, ℕ, ◌+◌, ◌-◌, ◌/◌, List, [], length, get_or, take, drop, leb, ltb, eqb, Result, Ok, Err}
 use Rattle.lists.specs.Pick.{pick}
 use Rattle.rows.specs.Rows.{row_count}
-use Rattle.candidates.specs.declared.Lookup.{Lookup}
-use Rattle.candidates.specs.declared.Lookup.TheVariants.{Part, Refused}
+use Rattle.refusals.specs.declared.Fault.TheVariants.{Size, NoRow}
+use Rattle.refusals.specs.declared.Refusal.{Refusal}
+use Rattle.refusals.specs.Table.{number, refused}
+use Rattle.candidates.specs.declared.Part.{Part}
 
 -- "is 0 or above 32,768"
 unfoldable pub bad_size : ℕ → Bool
@@ -23,25 +25,28 @@ bad_row rows r words =
     || ltb (length words - (rows + 1)) (get_or words (r + 1) 0)
 
 -- the words from the row's start up to the next row's, counted behind the starts
-unfoldable pub find_row : ℕ → ℕ → List ℕ → Lookup
-find_row rows r words = pick (bad_row rows r words) (Refused 11) (Part (rows + 1 + get_or words r 0) (rows + 1 + get_or words (r + 1) 0))
+abbrev pub part : ℕ → ℕ → Part
+part start end = record { start = start; end = end }
+
+unfoldable pub find_row : ℕ → ℕ → List ℕ → Result Part Refusal
+find_row rows r words = pick (bad_row rows r words) (refused NoRow 0) (Ok (part (rows + 1 + get_or words r 0) (rows + 1 + get_or words (r + 1) 0)))
 
 -- "after 1", with "region y divided by band height, rounded down"
-unfoldable pub find : ℕ → ℕ → ℕ → ℕ → List ℕ → Lookup
-find width height band y words = pick (bad_sizes width height band) (Refused 1) (find_row (row_count height band) (y / band) words)
+unfoldable pub find : ℕ → ℕ → ℕ → ℕ → List ℕ → Result Part Refusal
+find width height band y words = pick (bad_sizes width height band) (refused Size 0) (find_row (row_count height band) (y / band) words)
 
 -- "`candidates` is the row of region y"; "A refused `candidates` hands back an empty list."
-abbrev pub part_of : Lookup → List ℕ → List ℕ
-part_of (Part start end) words = take (end - start) (drop start words)
-part_of (Refused number) words = []
+abbrev pub part_of : Result Part Refusal → List ℕ → List ℕ
+part_of (Ok p) words = take (p.end - p.start) (drop p.start words)
+part_of (Err why) words = []
 
 abbrev pub candidates : ℕ → ℕ → ℕ → ℕ → List ℕ → List ℕ
 candidates width height band y words = part_of (find width height band y words) words
 
 -- the table's number; 0 where no row's case holds
-abbrev pub number_of : Lookup → ℕ
-number_of (Part start end) = 0
-number_of (Refused number) = number
+abbrev pub number_of : Result Part Refusal → ℕ
+number_of (Ok p) = 0
+number_of (Err why) = number why.fault
 
 abbrev pub refusal : ℕ → ℕ → ℕ → ℕ → List ℕ → ℕ
 refusal width height band y words = number_of (find width height band y words)

@@ -9,6 +9,10 @@ use lib.ListN.{length, take, drop, length-drop}
 use lib.Seq.{take_all}
 use lib.Ieee.{Float}
 use borrow.Author.Tests.{le-leb, lt-leb, leb-true, leb-false}
+use Rattle.refusals.specs.Table.{refused}
+use Rattle.refusals.specs.declared.Fault.TheVariants.{NoRoom}
+use Rattle.std.specs.Prelude.{Result, Ok}
+use Rattle.refusals.specs.declared.Refusal.{Refusal}
 use Rattle.lists.specs.Pick.{pick}
 use Rattle.runtime.specs.declared.FrameWork.{FrameWork}
 use Rattle.runtime.specs.Work.{work_of}
@@ -16,14 +20,14 @@ use Rattle.bands.specs.Bands.{rects_to}
 use Rattle.scheduler.specs.declared.Scheduled.{Scheduled}
 use Rattle.scheduler.specs.declared.Scheduled.TheVariants.{Regions, Full}
 use Rattle.scheduler.specs.Schedule.{schedule, Answers}
-use Rattle.scheduler.proofs.Outcomes.{Listed, answered, refused, front_words}
+use Rattle.scheduler.proofs.Outcomes.{Listed, answered, refused as unlisted, front_words}
 use Rattle.band_index.specs.declared.Built.{Built}
-use Rattle.band_index.specs.declared.Built.TheVariants.{Words, Full as NoRoom}
+use Rattle.band_index.specs.declared.Built.TheVariants.{Words, Full as Unbuilt}
 use Rattle.band_index.specs.Answer.{index_of, answer, stored}
 use Rattle.band_index.proofs.Answers.{stored_front}
 use Rattle.plans.specs.declared.Plan.{Plan}
 use Rattle.plans.specs.Drafts.{Draft}
-use Rattle.plans.specs.Answers.{draft_fits, accepted}
+use Rattle.plans.specs.Answers.{draft_fits, planned, accepted}
 use Rattle.drafting.specs.Drafted.{draft_in, rooms, judged, indexed, StandsIf}
 use Rattle.drafting.proofs.Words.{rects_length, rects_words}
 
@@ -33,15 +37,15 @@ module _ (ws : List ℕ) (n : ℕ) where
   unfolding answer
   words_count count e = go (leb (length ws) n) e
     where
-      go : (t : Bool) → Words count ≡ pick t (Words (length ws)) NoRoom → count ≡ length ws
+      go : (t : Bool) → Words count ≡ pick t (Words (length ws)) Unbuilt → count ≡ length ws
       go true e = cc
       go false e = let z : ◌≡◌ {A = ℕ} 0 1 = cc in absurd (omega arith)
 
-  words_many : NoRoom ≡ answer ws n → n < length ws
+  words_many : Unbuilt ≡ answer ws n → n < length ws
   unfolding answer
   words_many e = go (leb (length ws) n) refl e
     where
-      go : (t : Bool) → leb (length ws) n ≡ t → NoRoom ≡ pick t (Words (length ws)) NoRoom → n < length ws
+      go : (t : Bool) → leb (length ws) n ≡ t → Unbuilt ≡ pick t (Words (length ws)) Unbuilt → n < length ws
       go true h e = let z : ◌≡◌ {A = ℕ} 0 1 = cc in absurd (omega arith)
       go false h e = leb-false (length ws) n h
 
@@ -68,7 +72,7 @@ module _ (room rects commands regions pixels h b k : ℕ) (ibs : List Float) (ol
   pub index_fits : (count : ℕ) → r ≡ Words count → count ≤ room → (work : FrameWork) → work ≡ work_of commands regions pixels → Index (Ok (planned rects count work))
   index_fits count q l work f = let e = words_count ws (length old) count (sym q ∙ answered_is) in (rw (le-leb (length ws) room (omega arith)) (λ i. Ok (planned rects (e i) (f i))), held)
 
-  pub index_full : r ≡ NoRoom → room ≤ length old → Index (refused NoRoom 0)
+  pub index_full : r ≡ Unbuilt → room ≤ length old → Index (refused NoRoom 0)
   index_full q l = let e = words_many ws (length old) (sym q ∙ answered_is) in (rw (lt-leb (length ws) room (omega arith)), held)
 
 -- ---- the draft
@@ -99,7 +103,7 @@ module _ (w h b : ℕ) (rs : List Float) (n : ℕ) (ibs : List Float) (first com
 
   module _ (gs new : List ℕ) where
     pub regions_full : 4 * G ≤ length gs → (x : Scheduled) → Answers (schedule w h b (rects_to rs n)) gs x new → x ≡ Full → (xs ws : List ℕ) → Judges (refused NoRoom 0) xs ws
-    regions_full k x a q = regions_many (omega (arith, refused (schedule w h b (rects_to rs n)) gs new (subst (λ (y : Scheduled). Answers (schedule w h b (rects_to rs n)) gs y new) q a)))
+    regions_full k x a q = regions_many (omega (arith, unlisted (schedule w h b (rects_to rs n)) gs new (subst (λ (y : Scheduled). Answers (schedule w h b (rects_to rs n)) gs y new) q a)))
 
     module _ (x : Scheduled) (given : Answers (schedule w h b (rects_to rs n)) gs x new) (count pixels : ℕ) (q : x ≡ Regions count pixels) where
       told : Answers (schedule w h b (rects_to rs n)) gs (Regions count pixels) new

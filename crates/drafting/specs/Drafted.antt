@@ -1,5 +1,8 @@
 -- A draft in scratch: its rectangles stand in `rs`, the boxes of the new strip's commands in `ibs` from place `first` on.
-use Rattle.std.specs.Prelude.{◌≡◌, true, List, ℕ, ◌+◌, ◌*◌, ◌≤◌, leb, length, take, drop, Float}
+use Rattle.refusals.specs.declared.Fault.TheVariants.{NoRoom}
+use Rattle.refusals.specs.declared.Refusal.{Refusal}
+use Rattle.refusals.specs.Table.{refused}
+use Rattle.std.specs.Prelude.{◌≡◌, true, List, ℕ, ◌+◌, ◌*◌, ◌≤◌, leb, length, take, drop, Float, Result, Ok}
 use Rattle.lists.specs.Pick.{pick}
 use Rattle.rows.specs.Rows.{row_count}
 use Rattle.rect_list.specs.Rects as Rects
@@ -11,7 +14,7 @@ use Rattle.runtime.specs.Work.{work_of}
 use Rattle.plans.specs.declared.Plan.{Plan}
 use Rattle.plans.specs.Drafts.{Draft}
 use Rattle.plans.specs.Space.{Lent}
-use Rattle.plans.specs.Answers.{draft_fits, counts, accepted}
+use Rattle.plans.specs.Answers.{draft_fits, planned, counts, accepted}
 
 -- the draft of the first n rectangles and of so many commands
 abbrev pub draft_in : ℕ → ℕ → ℕ → List Float → ℕ → List Float → ℕ → ℕ → Draft

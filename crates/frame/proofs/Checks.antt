@@ -8,7 +8,7 @@ use Rattle.refusals.specs.Table.{refused}
 use Rattle.little_endian.specs.Words.{u32_at}
 use Rattle.strip.specs.declared.Cursor.{Cursor}
 use Rattle.strip.specs.Reading.{read_strip}
-use Rattle.frame.specs.Frame.{size_fits, header_of, ended, then_end, then_new, both_of, first_of}
+use Rattle.frame.specs.Frame.{size_fits, header_of, ended, then_new, then_strips, both_of}
 
 module _ (s : List ℕ) where
   -- ---- the header
@@ -24,6 +24,11 @@ module _ (s : List ℕ) where
     pub header_good : (size_fits w && (size_fits h && size_fits b)) ≡ true → Ok (record { width = w; height = h; band_height = b }) ≡ header_of s
     unfolding header_of
     header_good fits = rw (le-ltb (length s) 12 long, sym width, sym height, sym band, fits)
+
+-- ---- the new strip behind the old one
+pub both_next : (s : List ℕ) (old : Cursor) → read_strip s 12 ≡ Ok old → then_new s old (read_strip s old.at) ≡ both_of s
+unfolding both_of
+both_next s old e = ap (then_strips s) (sym e)
 
 -- ---- what follows the last strip
 pub followed : (s : List ℕ) (last : Cursor) → last.at < length s → refused TrailingByte last.at ≡ ended s last

@@ -1,7 +1,7 @@
 // A whole input: its header, and the strips behind it, or the first refusal. Any bytes will do, an empty input too.
 #![tactic(auto)]
 
-ghost use Rattle.std.specs.Prelude.{◌≡◌, ◌≤◌, length};
+ghost use Rattle.std.specs.Prelude.{◌≡◌, ◌&&◌, ◌≤◌, length};
 ghost use Rattle.frame.specs.Frame as Frame;
 ghost use Rattle.strip.specs.Reading.{read_strip};
 
@@ -30,6 +30,12 @@ fn size_fits(n: u64) -> bool
     n != 0 && n <= 32768
 }
 
+fn sizes_fit(width: u64, height: u64, band: u64) -> bool
+    ensures { result ≡ (Frame.size_fits width && (Frame.size_fits height && Frame.size_fits band)) }
+{
+    size_fits(width) && size_fits(height) && size_fits(band)
+}
+
 pub fn read_header(s: &[u8]) -> Result<Header, Refusal>
     ensures { result ≡ Frame.header_of s.now }
 {
@@ -39,7 +45,7 @@ pub fn read_header(s: &[u8]) -> Result<Header, Refusal>
     let width = little_endian::u32_at(s, 0);
     let height = little_endian::u32_at(s, 4);
     let band = little_endian::u32_at(s, 8);
-    if !size_fits(width) || !size_fits(height) || !size_fits(band) {
+    if !sizes_fit(width, height, band) {
         return Err(Fault::Size.at(0));
     }
     Ok(Header {

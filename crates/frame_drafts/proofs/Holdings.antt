@@ -1,5 +1,9 @@
 -- What lent space holds of the strips that were read, where their items fit: the counts are small, and the boxes of the new commands stand in a row.
 -- Assumes nothing.
+use Rattle.std.specs.Prelude.{Result, Ok, Err}
+use Rattle.refusals.specs.declared.Fault.TheVariants.{TrailingByte}
+use Rattle.refusals.specs.declared.Refusal.{Refusal}
+use Rattle.refusals.specs.Table.{refused}
 use Rattle.std.proofs.Common.{◌≡◌, ℕ, zero, suc, ◌+◌, ◌*◌, ◌/◌, ◌<◌, min, true, ◌&&◌, ltb, leb, List, [], ◌∷◌, map, length, get_or, drop, sym, refl, ap, ◌∙◌, subst, arith, get_or-drop, leb-true}
 use lib.Ieee.{Float, nan}
 use lib.Ieee.Fits.{and_l, and_r}
@@ -12,7 +16,7 @@ use Rattle.strip.specs.declared.Cursor.{Cursor}
 use Rattle.strip.specs.Reading.{read_strip}
 use Rattle.strip_laws.specs.Limits.{Within, WhereRead}
 use Rattle.strip_laws.proofs.Limits.{strip_within}
-use Rattle.frame.specs.Frame.{first_of, both_of, then_end, then_new, then_strips, ended}
+use Rattle.frame.specs.Frame.{first_of, both_of, with_old, then_end, then_new, then_strips, ended}
 use Rattle.stored_lists.specs.Stored.{command_in, commands_in, Stored}
 use Rattle.recording.specs.Recorded.{Space, SameLengths, Room}
 use Rattle.band_index.specs.Boxes.{box_at as boxNumbers, boxes_of}
@@ -27,6 +31,7 @@ FirstWithin (Ok new) = Within new
 FirstWithin (Err why) = Unit {0}
 
 end_within : (s : List ℕ) (x : Result Cursor Refusal) → WhereRead Within x → FirstWithin (then_end s x)
+unfolding ended
 end_within s (Ok t) w = pick_cases FirstWithin (ltb t.at (length s)) (refused TrailingByte t.at) (Ok t) (λ e. tt) (λ e. w)
 end_within s (Err why) w = tt
 
@@ -40,16 +45,16 @@ BothWithin (Err why) = Unit {0}
 
 new_within : (s : List ℕ) (old : Cursor) → Within old → (x : Result Cursor Refusal) → WhereRead Within x → BothWithin (then_new s old x)
 unfolding ended
-new_within s old w (Ok t) v = pick_cases BothWithin (ltb t.at (length s)) (refused TrailingByte t.at) (Ok (strips old t)) (λ e. tt) (λ e. (w, v))
+new_within s old w (Ok t) v = pick_cases (λ (x : Result Cursor Refusal). BothWithin (with_old old x)) (ltb t.at (length s)) (refused TrailingByte t.at) (Ok t) (λ e. tt) (λ e. (w, v))
 new_within s old w (Err why) v = tt
 
 old_within : (s : List ℕ) (x : Result Cursor Refusal) → WhereRead Within x → BothWithin (then_strips s x)
 old_within s (Ok old) w = new_within s old w (read_strip s old.at) (strip_within s old.at)
 old_within s (Err why) w = tt
 
-pub both_within : (s : List ℕ) (r : Result Strips Refusal) → r ≡ both_of s → (old new : Cursor) → r ≡ Ok (strips old new) → Within old × Within new
+pub both_within : (s : List ℕ) (r : Result Strips Refusal) → r ≡ both_of s → (both : Strips) → r ≡ Ok both → Within both.old × Within both.new
 unfolding both_of
-both_within s r a old new q = subst BothWithin (sym a ∙ q) (old_within s (read_strip s 12) (strip_within s 12))
+both_within s r a both q = subst BothWithin (sym a ∙ q) (old_within s (read_strip s 12) (strip_within s 12))
 
 -- ---- items that fit
 -- whatever is lent for the draft

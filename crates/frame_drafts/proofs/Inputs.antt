@@ -1,4 +1,8 @@
 -- Each answer of the functions that draft a whole input. Assumes nothing.
+use Rattle.std.specs.Prelude.{Result, Ok, Err}
+use Rattle.refusals.specs.declared.Fault.TheVariants.{NoRoom}
+use Rattle.refusals.specs.declared.Refusal.{Refusal}
+use Rattle.refusals.specs.Table.{refused}
 use Rattle.std.proofs.Common.{◌≡◌, ℕ, ◌+◌, ◌*◌, ◌<◌, ◌≤◌, Bool, true, false, ◌&&◌, eqb, ltb, leb, List, [], ◌∷◌, length, sym, refl, ap, ◌∙◌, subst, arith, w64, Fits, leb-true}
 use lib.Ieee.{Float, binary64, of_bits, of_int}
 use lib.Ieee.Fits.{and_l, and_r}
@@ -17,6 +21,7 @@ use Rattle.strip.specs.declared.Cursor.{Cursor}
 use Rattle.strip.specs.Reading.{commands_of}
 use Rattle.strip_laws.specs.Limits.{Within}
 use Rattle.frame.specs.declared.Header.{Header}
+use Rattle.frame.specs.declared.Strips.{Strips}
 use Rattle.frame.specs.Frame.{size_fits, header_of, first_of, both_of}
 use Rattle.stored_lists.specs.Stored.{commands_in, Stored}
 use Rattle.recording.specs.Recorded.{Space, SameLengths, Room, Holds, Two, RecordsFirst, RecordsBoth}
@@ -38,12 +43,18 @@ Meets z o p rs gs ws = (p ≡ answer_of z o) × StandsFor p o rs gs ws
 
 -- ---- two strips
 module _ (s : List ℕ) (w h b : ℕ) (z y : Space) (glyphs : List ℕ) (R G W : ℕ) (r : Result Strips Refusal) (a : r ≡ both_of s) (l : SameLengths z y) (k : RecordsBoth s y r) where
-  pub next_refused : (n m : ℕ) → r ≡ Err why → (rs : List Float) (gs ws : List ℕ) → Meets (lent_for z glyphs R G W) (on_both w h b s (both_of s)) (Err why) rs gs ws
-  next_refused n m q rs gs ws = rw (sym (sym q ∙ a)) (refl, tt)
+  pub next_refused : (why : Refusal) → r ≡ Err why → (rs : List Float) (gs ws : List ℕ) → Meets (lent_for z glyphs R G W) (on_both w h b s (both_of s)) (Err why) rs gs ws
+  next_refused why q rs gs ws = rw (sym (sym q ∙ a)) (refl, tt)
 
-  module _ (old new : Cursor) (q : r ≡ Ok (strips old new)) where
+  module _ (both : Strips) (q : r ≡ Ok both) where
+    abbrev old : Cursor
+    old = both.old
+
+    abbrev new : Cursor
+    new = both.new
+
     next_within : Within old × Within new
-    next_within = both_within s r a old new q
+    next_within = both_within s r a both q
 
     -- so the counts of both can be added
     pub next_sums : Fits w64 (old.commands + new.commands) × (Fits w64 (old.glyphs + new.glyphs) × Fits w64 (old.clips + new.clips))
@@ -98,8 +109,8 @@ unfolding of_bits of_int
 zero_whole = refl
 
 module _ (s : List ℕ) (w h b : ℕ) (z y : Space) (glyphs : List ℕ) (R G W : ℕ) (r : Result Cursor Refusal) (a : r ≡ first_of s) (l : SameLengths z y) (k : RecordsFirst s y r) where
-  pub first_refused : (n m : ℕ) → r ≡ Err why → (rs : List Float) (gs ws : List ℕ) → Meets (lent_for z glyphs R G W) (on_first w h b s (first_of s)) (Err why) rs gs ws
-  first_refused n m q rs gs ws = rw (sym (sym q ∙ a)) (refl, tt)
+  pub first_refused : (why : Refusal) → r ≡ Err why → (rs : List Float) (gs ws : List ℕ) → Meets (lent_for z glyphs R G W) (on_first w h b s (first_of s)) (Err why) rs gs ws
+  first_refused why q rs gs ws = rw (sym (sym q ∙ a)) (refl, tt)
 
   module _ (new : Cursor) (q : r ≡ Ok new) where
     module _ (t : Bool) (f : t ≡ items_fit (lent y.boxes y.below y.items y.item_boxes glyphs 0 0 0) (record { commands = new.commands; glyphs = new.glyphs; clips = new.clips })) where
@@ -149,9 +160,9 @@ size_of n e = go (eqb n 0) refl e
     go true q e = untrue e
     go false q e = let z = eqb-false n 0 q in (omega (arith, z), leb-true n 32768 e)
 
-abbrev HeaderFits : Header → Type 0
-HeaderFits (H.Sizes w h b) = Sizes w h b
-HeaderFits (H.BadHeader n) = Unit {0}
+abbrev HeaderFits : Result Header Refusal → Type 0
+HeaderFits (Ok sizes) = Sizes sizes.width sizes.height sizes.band_height
+HeaderFits (Err why) = Unit {0}
 
 header_fits : (s : List ℕ) → HeaderFits (header_of s)
 unfolding header_of
@@ -166,20 +177,20 @@ header_fits s =
     record { some_width = a.0; width_most = a.1; some_height = b.0; height_most = b.1; some_band = c.0; band_most = c.1 })
     (λ f. tt)
 
-module _ (s : List ℕ) (r : Header) (a : r ≡ header_of s) where
-  pub header_sizes : (w h b : ℕ) → r ≡ H.Sizes w h b → Sizes w h b
-  header_sizes w h b q = subst HeaderFits (sym a ∙ q) (header_fits s)
+module _ (s : List ℕ) (r : Result Header Refusal) (a : r ≡ header_of s) where
+  pub header_sizes : (sizes : Header) → r ≡ Ok sizes → Sizes sizes.width sizes.height sizes.band_height
+  header_sizes sizes q = subst HeaderFits (sym a ∙ q) (header_fits s)
 
   module _ (z : Lent) (p : Result Plan Refusal) (rs : List Float) (gs ws : List ℕ) where
-    pub header_first : (w h b : ℕ) → r ≡ H.Sizes w h b → p ≡ answer_of z (on_first w h b s (first_of s)) → StandsFor p (on_first w h b s (first_of s)) rs gs ws → Meets z (first_outcome s) p rs gs ws
+    pub header_first : (sizes : Header) → r ≡ Ok sizes → p ≡ answer_of z (on_first sizes.width sizes.height sizes.band_height s (first_of s)) → StandsFor p (on_first sizes.width sizes.height sizes.band_height s (first_of s)) rs gs ws → Meets z (first_outcome s) p rs gs ws
     unfolding first_outcome
-    header_first w h b q e f = rw (sym (sym q ∙ a)) (e, f)
+    header_first sizes q e f = rw (sym (sym q ∙ a)) (e, f)
 
-    pub header_next : (w h b : ℕ) → r ≡ H.Sizes w h b → p ≡ answer_of z (on_both w h b s (both_of s)) → StandsFor p (on_both w h b s (both_of s)) rs gs ws → Meets z (next_outcome s) p rs gs ws
+    pub header_next : (sizes : Header) → r ≡ Ok sizes → p ≡ answer_of z (on_both sizes.width sizes.height sizes.band_height s (both_of s)) → StandsFor p (on_both sizes.width sizes.height sizes.band_height s (both_of s)) rs gs ws → Meets z (next_outcome s) p rs gs ws
     unfolding next_outcome
-    header_next w h b q e f = rw (sym (sym q ∙ a)) (e, f)
+    header_next sizes q e f = rw (sym (sym q ∙ a)) (e, f)
 
-  module _ (z : Lent) (rs : List Float) (gs ws : List ℕ) (n : ℕ) (q : r ≡ H.BadHeader n) where
+  module _ (z : Lent) (rs : List Float) (gs ws : List ℕ) (why : Refusal) (q : r ≡ Err why) where
     pub header_no_first : Meets z (first_outcome s) (Err why) rs gs ws
     unfolding first_outcome
     header_no_first = rw (sym (sym q ∙ a)) (refl, tt)

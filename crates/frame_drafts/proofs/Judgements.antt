@@ -1,4 +1,8 @@
 -- The answer to a whole input: refused by its bytes, by its items, or as the draft is judged. Assumes nothing.
+use Rattle.std.specs.Prelude.{Result}
+use Rattle.refusals.specs.declared.Fault.TheVariants.{NoRoom}
+use Rattle.refusals.specs.declared.Refusal.{Refusal}
+use Rattle.refusals.specs.Table.{refused}
 use Rattle.std.proofs.Common.{◌≡◌, ℕ, ◌*◌, ◌/◌, ◌<◌, ◌≤◌, min, Bool, true, false, leb, List, map, length, take, drop, sym, ap, ◌∙◌, subst, arith, le-leb}
 use lib.Ieee.{Float}
 use borrow.Author.Tests.{lt-leb}

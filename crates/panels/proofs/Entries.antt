@@ -8,6 +8,11 @@ use native.Mathlib.Omega.{arith}
 use lib.Dec.{leb, ltb, eqb}
 use lib.ListN.{length, drop, get_or, length-append, get_or-append}
 use borrow.Author.Tests.{le-ltb, ltb-false, leb-true, eqb-false}
+use Rattle.refusals.specs.Table.{refusal}
+use Rattle.std.specs.Prelude.{Result, Ok, Err}
+use Rattle.refusals.specs.declared.Fault.TheVariants.{Size, TrailingByte}
+use Rattle.refusals.specs.declared.Refusal.{Refusal}
+use Rattle.refusals.specs.Table.{refused}
 use Rattle.lists.specs.Pick.{pick}
 use Rattle.lists.proofs.Picks.{pick_cases}
 use Rattle.commands.specs.Bounds.{Command, bounds}
@@ -19,7 +24,7 @@ use Rattle.scheduler.specs.Schedule.{Sizes, schedule}
 use Rattle.changes.specs.Changes.{diff_dirty}
 use Rattle.strip.specs.declared.Cursor.{Cursor}
 use Rattle.strip.specs.Reading.{read_strip, commands_of}
-use Rattle.frame.specs.Frame.{size_fits, header_of, ended, then_new, then_end, first_of, both_of}
+use Rattle.frame.specs.Frame.{size_fits, header_of, ended, with_old, then_new, then_end, first_of, both_of}
 use Rattle.frame.proofs.Checks.{both_next}
 use Rattle.plans.specs.declared.Plan.{Plan}
 use Rattle.plans.specs.Drafts.{Outcome, turned, drafted, on_first, on_both, on_header, first_outcome, next_outcome}
@@ -67,16 +72,16 @@ module _ (header : List ℕ) (twelve : length header ≡ 12) where
       front i j e h = let f : j ≡ i = omega arith in rw f (sym (get_or-append header s 0 i (omega (arith, twelve))))
 
   -- it is turned away, or its sizes fit
-  pub by_header : (P : Outcome → Type 0) (s : List ℕ) (k : ℕ → ℕ → ℕ → Outcome) → ((n : ℕ) → P (turned why)) → (Sizes w h b → P (k w h b)) → P (on_header (header_of (header ++ s)) k)
+  pub by_header : (P : Outcome → Type 0) (s : List ℕ) (k : ℕ → ℕ → ℕ → Outcome) → ((why : Refusal) → P (turned why)) → (Sizes w h b → P (k w h b)) → P (on_header (header_of (header ++ s)) k)
   unfolding header_of
   by_header P s k away f =
       rw (le-ltb (length (header ++ s)) 12 (omega (arith, twelve, length-append header s)), word_same s 0 (omega arith), word_same s 4 (omega arith), word_same s 8 (omega arith))
       (go (size_fits w) (size_fits h) (size_fits b) refl refl refl)
     where
-      go : (x y z : Bool) → size_fits w ≡ x → size_fits h ≡ y → size_fits b ≡ z → P (on_header (pick (x && (y && z)) (Fits w h b) (refused Size 0)) k)
-      go false y z d e g = away 1
-      go true false z d e g = away 1
-      go true true false d e g = away 1
+      go : (x y z : Bool) → size_fits w ≡ x → size_fits h ≡ y → size_fits b ≡ z → P (on_header (pick (x && (y && z)) (Ok (record { width = w; height = h; band_height = b })) (refused Size 0)) k)
+      go false y z d e g = away (refusal Size 0)
+      go true false z d e g = away (refusal Size 0)
+      go true true false d e g = away (refusal Size 0)
       go true true true d e g = f (sizes_fit w h b d e g)
 
   -- ---- what a call comes to
@@ -91,7 +96,7 @@ module _ (header : List ℕ) (twelve : length header ≡ 12) where
   WhereDrafted last s (drafted i d) = Drafted last s (drafted i d)
 
   first_drafted : (s : List ℕ) → WhereDrafted none s (first_outcome (header ++ s))
-  unfolding first_outcome first_of
+  unfolding first_outcome first_of ended
   first_drafted s = by_header (WhereDrafted none s) s (λ w h b. on_first w h b (header ++ s) (first_of (header ++ s))) (λ n. tt) (λ z. go z (read_strip (header ++ s) 12) refl)
     where
       go : Sizes w h b → (x : Result Cursor Refusal) → read_strip (header ++ s) 12 ≡ x → WhereDrafted none s (on_first w h b (header ++ s) (then_end (header ++ s) x))
@@ -110,7 +115,7 @@ module _ (header : List ℕ) (twelve : length header ≡ 12) where
     unfolding ended
     new_drafted z d at (Err why) e = tt
     new_drafted z d at (Ok new) e =
-        pick_cases (λ x. WhereDrafted (some old) s (on_both w h b input x)) (ltb new.at (length input)) (refused TrailingByte new.at) (Ok (strips d new))
+        pick_cases (λ (x : Result Cursor Refusal). WhereDrafted (some old) s (on_both w h b input (with_old d x))) (ltb new.at (length input)) (refused TrailingByte new.at) (Ok new)
         (λ t. tt)
         (λ t. record {
           sizes = z;

@@ -90,7 +90,7 @@ module _ (w h b : ℕ) (P : Planner) (good : P.Strip → Type 0) (L : Plans w h 
     regions_placed = subst (Schedulable w h b) (sym (L.regions last f.strip f.space call)) (boxes_schedulable sizes (boxes_since P.commands w h last f.strip))
 
     -- S2, S3, I3
-    planned : (Ok (planned P w h)) b background paint absent last f
+    planned : Planned P w h b background paint absent last f
     planned =
         let S = regions_placed in
         record {

@@ -6,6 +6,8 @@ use mathlib.Core.Option.{Option, none, some}
 use Prim.Native.Nat.{ℕ, ◌/◌, ◌<◌}
 use native.Mathlib.Omega.{arith}
 use lib.ListN.{length, drop}
+use Rattle.std.specs.Prelude.{Result, Ok, Err}
+use Rattle.refusals.specs.declared.Refusal.{Refusal}
 use Rattle.lists.specs.Members.{All}
 use Rattle.lists.proofs.Members.{all_map}
 use Rattle.little_endian.specs.Words.{u32_at}
@@ -59,8 +61,8 @@ module _ (header : List ℕ) (twelve : length header ≡ 12) where
   both_drawn : Sizes w h b → (s : List ℕ) (x : Result Strips Refusal) → WhereDrawn (on_both w h b s x)
   both_drawn z s (Ok both) = record {
     sizes = z;
-    rects = diff_dirty (commands_of s 12) (commands_of s old.at);
-    boxes = map bounds (commands_of s old.at);
+    rects = diff_dirty (commands_of s 12) (commands_of s both.old.at);
+    boxes = map bounds (commands_of s both.old.at);
     regions_are = refl;
     words_are = refl;
   }

@@ -1,5 +1,6 @@
 -- A call of an entry beside the planner that the statement about the panels speaks of (`entries` of crate `panels`).
-use Rattle.std.specs.Prelude.{◌≡◌, true, List, ◌++◌, ℕ}
+use Rattle.refusals.specs.declared.Refusal.{Refusal}
+use Rattle.std.specs.Prelude.{◌≡◌, true, List, ◌++◌, ℕ, Result}
 use Rattle.std.proofs.Math.Option.{Option, none, some}
 use Rattle.scheduler.specs.Schedule.{regions_to}
 use Rattle.plans.specs.declared.Plan.{Plan}

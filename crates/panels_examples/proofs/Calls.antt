@@ -3,6 +3,8 @@ use mathlib.Core.Path.{◌≡◌, refl}
 use mathlib.Core.List.{List, [], ◌∷◌, ◌++◌}
 use Prim.Native.Nat.{ℕ}
 use lib.Ieee.{of_int, of_bits, to_bits, neg, eq, lt, add, mul}
+use Rattle.refusals.specs.declared.Fault.TheVariants.{CutOff}
+use Rattle.refusals.specs.Table.{refusal}
 use Rattle.affine.specs.Affines.{bounding_box, transform_rect_bbox, finite_point, all_finite, bound_finite, try_transform}
 use Rattle.bands.specs.Bands.{regions_of, cut_to, insert_by, sort_by, join_to, join, merge_overlapping}
 use Rattle.changes.specs.Changes.{changed_glyphs, changed_bounds, diff_dirty}

@@ -4,6 +4,9 @@ use mathlib.Core.Path.{◌≡◌, sym, ap, ◌∙◌, subst}
 use mathlib.Core.List.{List, [], ◌∷◌, ◌++◌, foldl}
 use mathlib.Core.Option.{Option, none, some}
 use Prim.Native.Nat.{ℕ}
+use Rattle.std.specs.Prelude.{Ok}
+use Rattle.refusals.specs.declared.Fault.TheVariants.{CutOff, NoRoom}
+use Rattle.refusals.specs.Table.{refused}
 use Rattle.lists.specs.Members.{All, In}
 use Rattle.lists.proofs.Members.{in_all, all_in, all_left, all_right}
 use Rattle.device.specs.declared.DeviceRegion.{DeviceRegion}
@@ -11,7 +14,7 @@ use Rattle.commands.specs.Bounds.{Command}
 use Rattle.scheduler.specs.Schedule.{pixels_of}
 use Rattle.runtime.specs.Work.{work_of}
 use Rattle.plans.specs.Space.{Slices, lent_of}
-use Rattle.plans.specs.Answers.{items_fit, draft_fits, answer_of, accepted, index_words, published}
+use Rattle.plans.specs.Answers.{items_fit, draft_fits, planned, answer_of, accepted, index_words, published}
 use Rattle.painting.specs.Painters.{Pixel, Rules, GlyphRule}
 use Rattle.painting.proofs.Fewer.{rules_fewer}
 use Rattle.painting.proofs.GlyphRules.{glyph_rule}

@@ -1,11 +1,14 @@
 -- Demand 3 at work: which of the frames are accepted, that the panels agree before each frame and after the last, and what they show.
-use Rattle.std.specs.Prelude.{◌≡◌, [], ◌∷◌, ℕ, ◌<◌}
+use Rattle.refusals.specs.declared.Fault.TheVariants.{CutOff, NoRoom}
+use Rattle.refusals.specs.declared.Refusal.{Refusal}
+use Rattle.refusals.specs.Table.{refused}
+use Rattle.std.specs.Prelude.{◌≡◌, [], ◌∷◌, ℕ, ◌<◌, Result, Ok}
 use Rattle.std.proofs.Math.Option.{Option, none, some}
 use Rattle.painting.specs.Painters.{Rules, GlyphRule}
 use Rattle.runtime.specs.Work.{work_of}
 use Rattle.plans.specs.declared.Plan.{Plan}
 use Rattle.plans.specs.Space.{lent_of}
-use Rattle.plans.specs.Answers.{answer_of}
+use Rattle.plans.specs.Answers.{planned, answer_of}
 use Rattle.panels.specs.Panels.{Frame, Used, Orders, start, Agree, State}
 use Rattle.panels.specs.Entries.{call_of}
 use Rattle.panels_examples.specs.Pages.{header, strip, page_one, page_two, cell}

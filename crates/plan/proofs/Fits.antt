@@ -49,6 +49,6 @@ answer_fits z (drafted i d) =
     (λ e. (omega arith, omega arith))
 
 pub planned_fits :
-    (z : Lent) (o : Outcome) (r : Result Plan Refusal) (n c : ℕ) (w : FrameWork) → r ≡ answer_of z o → r ≡ Ok (planned n c w) → (w.regions_transferred ≤ z.regions) × (c ≤ z.words)
+    (z : Lent) (o : Outcome) (r : Result Plan Refusal) (plan : Plan) → r ≡ answer_of z o → r ≡ Ok plan → (plan.work.regions_transferred ≤ z.regions) × (plan.words ≤ z.words)
 unfolding Fitting
-planned_fits z o r n c w e f = subst (Fitting z) (sym e ∙ f) (answer_fits z o)
+planned_fits z o r plan e f = subst (Fitting z) (sym e ∙ f) (answer_fits z o)

@@ -8,6 +8,10 @@ use lib.Dec.{leb}
 use lib.ListN.{length, take, drop, replicate}
 use lib.Ieee.{Float}
 use borrow.Author.Tests.{leb-true}
+use Rattle.std.specs.Prelude.{Result, Err}
+use Rattle.refusals.specs.declared.Fault.TheVariants.{NoRoom}
+use Rattle.refusals.specs.declared.Refusal.{Refusal}
+use Rattle.refusals.specs.Table.{refused, number}
 use Rattle.lists.specs.Pick.{pick}
 use Rattle.lists.proofs.Picks.{pick_cases}
 use Rattle.geometry.specs.declared.Rect.{Rect}
@@ -62,8 +66,8 @@ module _ (z : Lent) (drs : List Float) (dgs dws : List ℕ) (rs : List Float) (g
     to_regions : 4 * z.regions ≤ length gs
     to_words : z.words ≤ length ws
 
-  none_copied : (n p : ℕ) → Copies (Err why) drs dgs dws rs gs ws
-  none_copied n p = record { from_rects = omega arith; from_regions = omega arith; from_words = omega arith; to_rects = omega arith; to_regions = omega arith; to_words = omega arith }
+  none_copied : (why : Refusal) → Copies (Err why) drs dgs dws rs gs ws
+  none_copied why = record { from_rects = omega arith; from_regions = omega arith; from_words = omega arith; to_rects = omega arith; to_regions = omega arith; to_words = omega arith }
 
   draft_copied : (d : Draft) → Within z d → Long → Copies (counts d) drs dgs dws rs gs ws
   draft_copied d i l = record {
@@ -76,7 +80,7 @@ module _ (z : Lent) (drs : List Float) (dgs dws : List ℕ) (rs : List Float) (g
   }
 
   copies_of : (o : Outcome) → Long → Copies (answer_of z o) drs dgs dws rs gs ws
-  copies_of (turned why) l = none_copied (number why.fault) why.position
+  copies_of (turned why) l = none_copied why
   copies_of (drafted i d) l =
       pick_cases (λ r. Copies r drs dgs dws rs gs ws) (items_fit z i && draft_fits z d) (counts d) (refused NoRoom 0)
       (λ e. draft_copied d (within z d (both_right (items_fit z i) (draft_fits z d) e)) l)

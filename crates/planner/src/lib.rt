@@ -35,11 +35,14 @@ fn publish(
     ensures scheduled { regions.new ≡ take (region_count plan) draft_regions.now ++ drop (region_count plan) regions.old }
     ensures index { words.new ≡ take (word_count plan) draft_words.now ++ drop (word_count plan) words.old }
 {
-    if let Ok(accepted) = plan {
-        let region_count = accepted.work.regions_transferred as usize;
-        lists::copy_f64(draft_rects, 4 * accepted.rects, rects);
-        lists::copy_u32(draft_regions, 4 * region_count, regions);
-        lists::copy_u32(draft_words, accepted.words, words);
+    match plan {
+        Ok(accepted) => {
+            let region_count = accepted.work.regions_transferred as usize;
+            lists::copy_f64(draft_rects, 4 * accepted.rects, rects);
+            lists::copy_u32(draft_regions, 4 * region_count, regions);
+            lists::copy_u32(draft_words, accepted.words, words);
+        }
+        Err(_) => {}
     }
 }
 

@@ -116,7 +116,7 @@ module _ (s : List ℕ) (old : Cursor) (z y : Space) (r : Result Cursor Refusal)
 
 -- ---- both
 -- the old cursor of two strips is the one that they were made with
-old_of : Result Strips Refusal → Cursor → Cursor
+abbrev old_of : Result Strips Refusal → Cursor → Cursor
 old_of (Ok both) c = both.old
 old_of (Err why) c = c
 

@@ -1,5 +1,6 @@
 -- The plan that a call answers, from its slices and its bytes alone.
-use Rattle.std.specs.Prelude.{List, ℕ}
+use Rattle.refusals.specs.declared.Refusal.{Refusal}
+use Rattle.std.specs.Prelude.{List, ℕ, Result}
 use Rattle.plans.specs.declared.Plan.{Plan}
 use Rattle.plans.specs.Drafts.{first_outcome, next_outcome}
 use Rattle.plans.specs.Space.{Slices, lent_of}

@@ -1,3 +1,5 @@
+use Rattle.std.specs.Prelude.{Err}
+use mathlib.Core.Path.{ap, ◌∙◌}
 -- `find_row` meets its contract, test by test. Assumes nothing.
 use Prim.Native.Nat.{◌+◌}
 use Rattle.candidates.specs.Table.{bad_row, find_row}
@@ -7,11 +9,11 @@ use Rattle.candidates.proofs.find_row.Goals as goal
 
 pub returns-then-row_count-row : goal.returns-then-row_count-row
 unfolding find_row bad_row
-returns-then-row_count-row c = simp (le-leb _ _ c.if-row_count-row.true)
+returns-then-row_count-row c = ap Err c.at.ensures ∙ simp (le-leb _ _ c.if-row_count-row.true)
 
 pub returns-then-words-row_count : goal.returns-then-words-row_count
 unfolding find_row bad_row
-returns-then-words-row_count c = simp (lt-leb _ _ c.if-row_count-row.false, le-leb _ _ c.if-words-row_count.true)
+returns-then-words-row_count c = ap Err c.at-then-words-row_count.ensures ∙ simp (lt-leb _ _ c.if-row_count-row.false, le-leb _ _ c.if-words-row_count.true)
 
 pub overflow_cast-start : goal.overflow_cast-start
 overflow_cast-start c = omega (arith, c.type_inv.words c.args.row)
@@ -21,11 +23,11 @@ overflow_cast-end c = omega (arith, c.type_inv.words (c.args.row + 1))
 
 pub returns-then-end-start : goal.returns-then-end-start
 unfolding find_row bad_row
-returns-then-end-start c = simp (lt-leb _ _ c.if-row_count-row.false, lt-leb _ _ c.if-words-row_count.false, lt-ltb _ _ c.if-end-start.true)
+returns-then-end-start c = ap Err c.at-then-end-start.ensures ∙ simp (lt-leb _ _ c.if-row_count-row.false, lt-leb _ _ c.if-words-row_count.false, lt-ltb _ _ c.if-end-start.true)
 
 pub returns-then-words-entries : goal.returns-then-words-entries
 unfolding find_row bad_row
-returns-then-words-entries c = simp (lt-leb _ _ c.if-row_count-row.false, lt-leb _ _ c.if-words-row_count.false, le-ltb _ _ c.if-end-start.false, lt-ltb _ _ c.if-words-entries.true)
+returns-then-words-entries c = ap Err c.at-then-words-entries.ensures ∙ simp (lt-leb _ _ c.if-row_count-row.false, lt-leb _ _ c.if-words-row_count.false, le-ltb _ _ c.if-end-start.false, lt-ltb _ _ c.if-words-entries.true)
 
 pub returns : goal.returns
 unfolding find_row bad_row

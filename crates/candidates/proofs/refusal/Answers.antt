@@ -3,8 +3,8 @@ use mathlib.Core.Path.{sym, ap, ◌∙◌}
 use Rattle.candidates.specs.Table.{number_of}
 use Rattle.candidates.proofs.refusal.Goals as goal
 
-pub returns-in-Part : goal.returns-in-Part
-returns-in-Part c = ap number_of (sym c.in-Part.is ∙ c.find.ensures)
+pub returns-in-Ok : goal.returns-in-Ok
+returns-in-Ok c = ap number_of (sym c.in-Ok.is ∙ c.find.ensures)
 
-pub returns-in-Refused : goal.returns-in-Refused
-returns-in-Refused c = ap number_of (sym c.in-Refused.is ∙ c.find.ensures)
+pub returns-in-Err : goal.returns-in-Err
+returns-in-Err c = c.number.ensures ∙ ap number_of (sym c.in-Err.is ∙ c.find.ensures)

@@ -1,3 +1,5 @@
+use Rattle.std.specs.Prelude.{Err}
+use mathlib.Core.Path.{ap, ◌∙◌}
 use Rattle.drafting.proofs.Judged.{rects_over, regions_over, regions_fit, regions_full}
 use Rattle.drafting.proofs.draft.Goals as goal
 
@@ -5,7 +7,7 @@ pub returns-then-rect_room-n : goal.returns-then-rect_room-n
 returns-then-rect_room-n c =
     let all = rects_over c.args.width c.args.height c.args.band_height c.args.rects.now c.args.n c.args.item_boxes.now c.args.first c.args.commands c.args.rect_room c.args.region_room c.args.word_room c.if-rect_room-n.true _ _ in
     record {
-      answer = all.0;
+      answer = ap Err c.at.ensures ∙ all.0;
       stands = all.1;
     }
 
@@ -25,7 +27,7 @@ pub returns-then-region_room-count : goal.returns-then-region_room-count
 returns-then-region_room-count c =
     let all = regions_over c.args.width c.args.height c.args.band_height c.args.rects.now c.args.n c.args.item_boxes.now c.args.first c.args.commands c.args.rect_room c.args.region_room c.args.word_room _ _ _ c.schedule.ensures _ _ c.in-Regions.is c.if-region_room-count.true _ _ in
     record {
-      answer = all.0;
+      answer = ap Err c.at-then-region_room-count.ensures ∙ all.0;
       stands = all.1;
     }
 
@@ -68,6 +70,6 @@ pub returns-in-Full : goal.returns-in-Full
 returns-in-Full c =
     let all = regions_full c.args.width c.args.height c.args.band_height c.args.rects.now c.args.n c.args.item_boxes.now c.args.first c.args.commands c.args.rect_room c.args.region_room c.args.word_room _ _ c.requires.region_room _ c.schedule.ensures c.in-Full.is _ _ in
     record {
-      answer = all.0;
+      answer = ap Err c.at-in-Full.ensures ∙ all.0;
       stands = all.1;
     }

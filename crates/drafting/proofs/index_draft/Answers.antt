@@ -1,3 +1,5 @@
+use Rattle.std.specs.Prelude.{Err}
+use mathlib.Core.Path.{ap, ◌∙◌}
 use Rattle.drafting.proofs.Judged.{part_rest, index_over, index_fits, index_full}
 use Prim.Native.Nat.{◌*◌}
 use Rattle.drafting.proofs.index_draft.Goals as goal
@@ -15,7 +17,7 @@ pub returns-then-room-count : goal.returns-then-room-count
 returns-then-room-count c =
     let all = index_over c.args.room c.args.rects c.args.commands c.args.regions c.args.pixels c.args.height c.args.band_height (4 * c.args.first) c.args.item_boxes.now _ _ _ _ (part_rest c.args.item_boxes.now (4 * c.args.first)) c.build.ensures.value c.build.ensures.words_after _ c.in-Words.is c.if-room-count.true in
     record {
-      answer = all.0;
+      answer = ap Err c.at.ensures ∙ all.0;
       held = all.1;
     }
 
@@ -46,6 +48,6 @@ pub returns-in-Full : goal.returns-in-Full
 returns-in-Full c =
     let all = index_full c.args.room c.args.rects c.args.commands c.args.regions c.args.pixels c.args.height c.args.band_height (4 * c.args.first) c.args.item_boxes.now _ _ _ _ (part_rest c.args.item_boxes.now (4 * c.args.first)) c.build.ensures.value c.build.ensures.words_after c.in-Full.is c.requires.4 in
     record {
-      answer = all.0;
+      answer = ap Err c.at-in-Full.ensures ∙ all.0;
       held = all.1;
     }

@@ -1,15 +1,11 @@
+use Rattle.std.proofs.lemmas.Result.{err_from_is_err_and}
+use mathlib.Core.Path.{refl}
 use Rattle.frame_drafts.specs.Scratch.{lent}
 use Rattle.frame_drafts.proofs.Inputs.{header_sizes, header_first, header_no_first}
 use Rattle.frame_drafts.proofs.first_frame.Goals as goal
 
-pub enum_known-width : goal.enum_known-width
-enum_known-width c = c.in-Sizes.in-Sizes-own.keys1
-
 pub draft_first-requires : goal.draft_first-requires
-draft_first-requires c = (header_sizes _ _ c.read_header.ensures _ _ _ c.in-Sizes.is, c.requires)
-
-pub enum_known-number : goal.enum_known-number
-enum_known-number c = c.in-BadHeader.in-BadHeader-own.keys2
+draft_first-requires c = (header_sizes _ _ c.in_ok-sizes.ensures _ refl, c.requires)
 
 pub shape_of-boxes : goal.shape_of-boxes
 shape_of-boxes c = c.draft_first.auto.boxes
@@ -38,18 +34,19 @@ shape_of-regions c = c.draft_first.auto.regions
 pub shape_of-words : goal.shape_of-words
 shape_of-words c = c.draft_first.auto.words
 
-pub returns-in-Sizes : goal.returns-in-Sizes
-returns-in-Sizes c =
-    let all = header_first _ _ c.read_header.ensures (lent c.args.boxes.now c.args.below.now c.args.items.now c.args.item_boxes.now c.args.glyph_items.now c.args.rect_room c.args.region_room c.args.word_room) _ _ _ _ _ _ _ c.in-Sizes.is c.draft_first.ensures.answer c.draft_first.ensures.stands in
+pub returns : goal.returns
+returns c =
+    let all = header_first _ _ c.in_ok-sizes.ensures (lent c.args.boxes.now c.args.below.now c.args.items.now c.args.item_boxes.now c.args.glyph_items.now c.args.rect_room c.args.region_room c.args.word_room) _ _ _ _ _ refl c.draft_first.ensures.answer c.draft_first.ensures.stands in
     record {
       answer = all.0;
       stands = all.1;
     }
 
-pub returns-in-BadHeader : goal.returns-in-BadHeader
-returns-in-BadHeader c =
-    let all = header_no_first _ _ c.read_header.ensures (lent c.args.boxes.now c.args.below.now c.args.items.now c.args.item_boxes.now c.args.glyph_items.now c.args.rect_room c.args.region_room c.args.word_room) _ _ _ _ c.in-BadHeader.is in
-    record {
+pub returns-in_err-sizes : goal.returns-in_err-sizes
+returns-in_err-sizes c =
+    let p = err_from_is_err_and c.from_residual.result c.from_residual.ensures.1 in
+    let all = header_no_first _ _ c.in_err-sizes.ensures (lent c.args.boxes.now c.args.below.now c.args.items.now c.args.item_boxes.now c.args.glyph_items.now c.args.rect_room c.args.region_room c.args.word_room) _ _ _ _ refl in
+    rw (p.1, p.2) record {
       answer = all.0;
       stands = all.1;
     }
