@@ -55,7 +55,7 @@ found true f p x h = absurd (subst Away h tt)
 found false f p x h = (refl, h)
 
 -- two starts that neither fall nor pass the entries
-within : (rows r : ℕ) (p : Part) (words : List ℕ) → rows < length words → get_or words r 0 ≤ get_or words (r + 1) 0 → get_or words (r + 1) 0 ≤ length words - (rows + 1) → Ok (part (rows + 1 + get_or words r 0) (rows + 1 + get_or words (r + 1) 0)) ≡ Ok p → (p.start ≤ p.end) × (p.end ≤ length words)
+within : (rows r : ℕ) (p : Part) (words : List ℕ) → rows < length words → get_or words r 0 ≤ get_or words (r + 1) 0 → get_or words (r + 1) 0 ≤ length words - (rows + 1) → ◌≡◌ {A = Result Part Refusal} (Ok (part (rows + 1 + get_or words r 0) (rows + 1 + get_or words (r + 1) 0))) (Ok p) → (p.start ≤ p.end) × (p.end ≤ length words)
 within rows r p words l a b h = subst Within h (omega arith, omega arith)
   where
     Within : Result Part Refusal → Type 0

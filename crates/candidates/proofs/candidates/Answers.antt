@@ -5,8 +5,8 @@ use Rattle.candidates.specs.Table.{part_of}
 use native.Mathlib.Omega.{arith}
 use Rattle.candidates.proofs.candidates.Goals as goal
 
-pub offset_bounds-words-start : goal.offset_bounds-words-start
-offset_bounds-words-start c = omega (arith, part_within _ _ _ _ _ _ (sym c.find.ensures ∙ c.in-Ok.is))
+pub offset_bounds-words-part : goal.offset_bounds-words-part
+offset_bounds-words-part c = omega (arith, part_within _ _ _ _ _ _ (sym c.find.ensures ∙ c.in-Ok.is))
 
 pub slice_bounds-result-count : goal.slice_bounds-result-count
 slice_bounds-result-count c = omega (arith, part_within _ _ _ _ _ _ (sym c.find.ensures ∙ c.in-Ok.is))
