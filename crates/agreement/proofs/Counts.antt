@@ -21,6 +21,7 @@ use Rattle.strip.specs.declared.Cursor.{Cursor}
 use Rattle.strip.specs.Reading.{read_strip, commands_of}
 use Rattle.strip_laws.specs.Limits.{WhereRead}
 use Rattle.strip_laws.proofs.Counts.{glyph_total, Counted, strip_counted}
+use Rattle.frame.specs.declared.Strips.{Strips}
 use Rattle.frame.specs.Frame.{strips, ended, with_old, then_new, then_end, then_strips, first_of, both_of}
 use Rattle.plans.specs.Space.{Lent}
 use Rattle.plans.specs.Drafts.{Items}

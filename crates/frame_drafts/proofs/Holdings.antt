@@ -16,6 +16,7 @@ use Rattle.strip.specs.declared.Cursor.{Cursor}
 use Rattle.strip.specs.Reading.{read_strip}
 use Rattle.strip_laws.specs.Limits.{Within, WhereRead}
 use Rattle.strip_laws.proofs.Limits.{strip_within}
+use Rattle.frame.specs.declared.Strips.{Strips}
 use Rattle.frame.specs.Frame.{first_of, both_of, with_old, then_end, then_new, then_strips, ended}
 use Rattle.stored_lists.specs.Stored.{command_in, commands_in, Stored}
 use Rattle.recording.specs.Recorded.{Space, SameLengths, Room}

@@ -10,7 +10,7 @@ pub append-n-requires : goal.append-n-requires
 append-n-requires c = lit≤ tt
 
 pub draft-requires : goal.draft-requires
-draft-requires c = first_ready c.args.s.now c.args.width c.args.height c.args.band_height _ _ c.args.glyph_items.now c.args.rect_room c.args.region_room c.args.word_room _ c.in_ok-new.ensures.answer c.in_ok-new.ensures.lengths c.in_ok-new.ensures.lists _ refl _ c.items_fit.ensures c.if-not-items_fit.false _ _ _ _ _ c.nearest_u64_to_f64.ensures c.nearest_u64_to_f64.ensures c.append-n.ensures c.requires.0 _ _ _ _ c.requires.1
+draft-requires c = first_ready c.args.s.now c.args.width c.args.height c.args.band_height _ _ c.args.glyph_items.now c.args.rect_room c.args.region_room c.args.word_room _ c.in_ok-new.ensures.answer c.in_ok-new.ensures.lengths c.in_ok-new.ensures.lists _ refl _ c.items_fit.ensures c.if-not-items_fit.false _ _ _ _ _ c.nearest_u64_to_f64.ensures c.nearest_u64_to_f64-2.ensures c.append-n.ensures c.requires.0 _ _ _ _ c.requires.1
 
 pub shape_of-boxes : goal.shape_of-boxes
 shape_of-boxes c = c.record_first.auto.boxes
@@ -41,7 +41,7 @@ shape_of-words c = c.draft.auto.words
 
 pub returns : goal.returns
 returns c =
-    let all = first_meets c.args.s.now c.args.width c.args.height c.args.band_height _ _ c.args.glyph_items.now c.args.rect_room c.args.region_room c.args.word_room _ c.in_ok-new.ensures.answer c.in_ok-new.ensures.lengths c.in_ok-new.ensures.lists _ refl _ c.items_fit.ensures c.if-not-items_fit.false _ _ _ _ _ c.nearest_u64_to_f64.ensures c.nearest_u64_to_f64.ensures c.append-n.ensures c.requires.1.rect_room _ _ _ c.draft.ensures.answer c.draft.ensures.stands in
+    let all = first_meets c.args.s.now c.args.width c.args.height c.args.band_height _ _ c.args.glyph_items.now c.args.rect_room c.args.region_room c.args.word_room _ c.in_ok-new.ensures.answer c.in_ok-new.ensures.lengths c.in_ok-new.ensures.lists _ refl _ c.items_fit.ensures c.if-not-items_fit.false _ _ _ _ _ c.nearest_u64_to_f64.ensures c.nearest_u64_to_f64-2.ensures c.append-n.ensures c.requires.1.rect_room _ _ _ c.draft.ensures.answer c.draft.ensures.stands in
     record {
       answer = all.0;
       stands = all.1;
@@ -82,7 +82,7 @@ shape_of-item_boxes-in_err-new c = c.record_first.auto.item_boxes
 pub returns-in_err-new : goal.returns-in_err-new
 returns-in_err-new c =
     let p = err_from_is_err_and c.from_residual.result c.from_residual.ensures.1 in
-    let all = first_refused c.args.s.now c.args.width c.args.height c.args.band_height _ _ c.args.glyph_items.now c.args.rect_room c.args.region_room c.args.word_room _ c.in_err-new.ensures.answer c.in_err-new.ensures.lengths c.in_err-new.ensures.lists _ _ refl _ _ _ in
+    let all = first_refused c.args.s.now c.args.width c.args.height c.args.band_height _ _ c.args.glyph_items.now c.args.rect_room c.args.region_room c.args.word_room _ c.in_err-new.ensures.answer c.in_err-new.ensures.lengths c.in_err-new.ensures.lists _ refl _ _ _ in
     rw (p.1, p.2) record {
       answer = all.0;
       stands = all.1;

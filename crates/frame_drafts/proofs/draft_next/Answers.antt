@@ -90,7 +90,7 @@ shape_of-item_boxes-in_err-both c = c.record_both.auto.item_boxes
 pub returns-in_err-both : goal.returns-in_err-both
 returns-in_err-both c =
     let p = err_from_is_err_and c.from_residual.result c.from_residual.ensures.1 in
-    let all = next_refused c.args.s.now c.args.width c.args.height c.args.band_height _ _ c.args.glyph_items.now c.args.rect_room c.args.region_room c.args.word_room _ c.in_err-both.ensures.answer c.in_err-both.ensures.lengths c.in_err-both.ensures.lists _ _ refl _ _ _ in
+    let all = next_refused c.args.s.now c.args.width c.args.height c.args.band_height _ _ c.args.glyph_items.now c.args.rect_room c.args.region_room c.args.word_room _ c.in_err-both.ensures.answer c.in_err-both.ensures.lengths c.in_err-both.ensures.lists _ refl _ _ _ in
     rw (p.1, p.2) record {
       answer = all.0;
       stands = all.1;
