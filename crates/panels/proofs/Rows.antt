@@ -24,6 +24,7 @@ use Rattle.painting.proofs.Schedules.{width_size, height_size, band_size}
 use Rattle.schedule_laws.specs.Placed.{Placed}
 use Rattle.schedule_laws.proofs.Boxes.{boxes_schedulable}
 use Rattle.strip.specs.Reading.{commands_of}
+use Rattle.strip.specs.declared.Cursor.{Cursor}
 use Rattle.frame.specs.declared.Strips.{Strips}
 use Rattle.frame.specs.Frame.{first_of, both_of}
 use Rattle.plans.specs.Drafts.{Outcome, turned, drafted, screen_rect, on_first, on_both, first_outcome, next_outcome}

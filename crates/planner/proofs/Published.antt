@@ -11,7 +11,7 @@ use borrow.Author.Tests.{leb-true}
 use Rattle.std.specs.Prelude.{Result, Err}
 use Rattle.refusals.specs.declared.Fault.TheVariants.{NoRoom}
 use Rattle.refusals.specs.declared.Refusal.{Refusal}
-use Rattle.refusals.specs.Table.{refused, number}
+use Rattle.refusals.specs.Table.{refused, refusal}
 use Rattle.lists.specs.Pick.{pick}
 use Rattle.lists.proofs.Picks.{pick_cases}
 use Rattle.geometry.specs.declared.Rect.{Rect}
@@ -84,7 +84,7 @@ module _ (z : Lent) (drs : List Float) (dgs dws : List ℕ) (rs : List Float) (g
   copies_of (drafted i d) l =
       pick_cases (λ r. Copies r drs dgs dws rs gs ws) (items_fit z i && draft_fits z d) (counts d) (refused NoRoom 0)
       (λ e. draft_copied d (within z d (both_right (items_fit z i) (draft_fits z d) e)) l)
-      (λ e. none_copied 10 0)
+      (λ e. none_copied (refusal NoRoom 0))
 
 -- ---- what is copied is what is published
 module _ (z : Lent) (o : Outcome) (r : Result Plan Refusal) (a : r ≡ answer_of z o) (rs : List Float) (gs ws : List ℕ) (s : StandsFor r o rs gs ws) (old-rs : List Float) (old-gs old-ws : List ℕ) where
