@@ -7,14 +7,14 @@ ghost use Rattle.affine.specs.Affines as Affines;
 
 use geometry::Rect;
 
-#[derive(Clone, Copy)]
+#[derive(Clone, Copy, PartialEq, Debug)]
 pub struct Point {
     pub x: f64,
     pub y: f64,
 }
 
 // The affine map of (x, y) to (a x + c y + e, b x + d y + f).
-#[derive(Clone, Copy)]
+#[derive(Clone, Copy, PartialEq, Debug)]
 pub struct Affine {
     pub a: f64,
     pub b: f64,
