@@ -29,11 +29,11 @@ use Rattle.strip_format.proofs.Numbers.{single_finite, rect_numbers}
 use Rattle.strip.specs.Reading.{command_of}
 use Rattle.strip_laws.proofs.Alike.{command_twice}
 use Rattle.strip_laws.proofs.Numbers.{draw_numbers}
-use Rattle.changes.specs.Changes.{changed_bounds, diff_dirty}
+use Rattle.changes.specs.Changes.{changed_bounds}
 use Rattle.display_list.specs.Lists.{offset_at, clip_number_at}
-use Rattle.stored_lists.specs.Stored.{Stored, command_in, commands_in}
+use Rattle.stored_lists.specs.Stored.{Stored, command_in}
 use Rattle.runtime.specs.Placed.{Standing, whole_length, AlikeClips}
-use Rattle.runtime.proofs.Changes.{diff_next}
+use Rattle.runtime.proofs.Changes.{changed_from, changed_next}
 
 -- ---- a command with its glyphs is as long as both
 module _ (s : List ℕ) (at : ℕ) where
@@ -112,8 +112,8 @@ equal_clips c d e =
     is_true (same_clips c.clips d.clips) (and_r t (same_clips c.clips d.clips) (holds (t && same_clips c.clips d.clips) e))
 
 module _ (s : List ℕ) (bs : List Float) (ns is : List ℕ) where
-  pub diff_same : (p i q j : ℕ) → 0 < i → (j ≡ 0 → ⊥) → equal (command_in s bs ns is p) (command_in s bs ns is q) ≡ true → diff_dirty (commands_in s bs ns is p i) (commands_in s bs ns is q j) ≡ diff_dirty (commands_in s bs ns is (p + 1) (i - 1)) (commands_in s bs ns is (q + 1) (j - 1))
-  diff_same p i q j h k e = diff_next s bs ns is p i q j h k ∙ equal_none (command_in s bs ns is p) (command_in s bs ns is q) _ e
+  pub changed_same : (old new k : ℕ) → k < old → k < new → equal (command_in s bs ns is k) (command_in s bs ns is (old + k)) ≡ true → changed_from s bs ns is old new k ≡ changed_from s bs ns is old new (k + 1)
+  changed_same old new k h l e = changed_next s bs ns is old new k h l ∙ equal_none (command_in s bs ns is k) (command_in s bs ns is (old + k)) (changed_from s bs ns is old new (k + 1)) e
 
   pub clips_of : (p q : ℕ) → equal (command_in s bs ns is p) (command_in s bs ns is q) ≡ true → AlikeClips bs ns (clip_number_at is p) (clip_number_at is q)
   clips_of p q e = equal_clips (command_in s bs ns is p) (command_in s bs ns is q) e

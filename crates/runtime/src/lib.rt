@@ -56,72 +56,49 @@ fn glyph_count(command: DrawCommand) -> u32
     ensures { result ≡ glyph_count command }
 {
     match command {
-        DrawCommand::FillPath { .. } => 0,
-        DrawCommand::StrokePath { .. } => 0,
         DrawCommand::GlyphRun { glyphs, .. } => glyphs,
-        DrawCommand::Scene { .. } => 0,
+        _ => 0,
     }
 }
 
 // The command at a place of the list.
+#[tactic(auto, unfolding(crate::specs::Placed::placed_at))]
 fn placed_at(s: &[u8], items: &[u64], item_boxes: &[f64], i: usize) -> PlacedCommand
     requires { (2 * i + 2 ≤ length items.now) × (4 * i + 4 ≤ length item_boxes.now) × (offset_at items.now i ≤ length s.now) }
     ensures { result ≡ placed_at s.now items.now item_boxes.now i }
 {
     let at = items[2 * i] as usize;
-    let clip = items[2 * i + 1];
-    let glyphs = at + 103;
-    let bounds = rect_words::rect_at(item_boxes, 4 * i);
     let command = strip_format::command_at(s, at);
-    let count = glyph_count(command);
-    let transform = command.transform();
     PlacedCommand {
         command,
         run: Run {
-            glyphs,
-            count,
-            transform,
-            clip,
+            glyphs: at + 103,
+            count: glyph_count(command),
+            transform: command.transform(),
+            clip: items[2 * i + 1],
         },
-        bounds,
+        bounds: rect_words::rect_at(item_boxes, 4 * i),
     }
 }
 
 // Whether two commands are equal. Clips, which take the longest walk, are compared where all else is equal.
+#[tactic(auto, unfolding(equality::specs::Drawings::equal))]
 fn equal(s: &[u8], boxes: &[f64], below: &[u64], old: PlacedCommand, new: PlacedCommand) -> bool
     requires { Pair s.now boxes.now below.now old new }
     ensures { result ≡ Drawings.equal (stands_for s.now boxes.now below.now old) (stands_for s.now boxes.now below.now new) }
 {
-    let command = old.command;
-    let other = new.command;
-    let run = old.run;
-    let other_run = new.run;
-    let clip = run.clip;
-    let other_clip = other_run.clip;
-    if equality::same_drawing(command, other) {
-        if glyph_changes::equal_glyphs(s, run, other_run) {
-            return clips::same_clips(boxes, below, clip, other_clip);
-        }
-        return false;
-    }
-    false
+    equality::same_drawing(old.command, new.command)
+        && glyph_changes::equal_glyphs(s, old.run, new.run)
+        && clips::same_clips(boxes, below, old.run.clip, new.run.clip)
 }
 
 // Whether both are runs alike in font, size, affine, brush and clips.
-fn runs_alike(boxes: &[f64], below: &[u64], old: PlacedCommand, new: PlacedCommand) -> bool
-    requires { Rooted boxes.now below.now old.run.clip new.run.clip }
-    ensures { result ≡ (Drawings.runs_alike old.command new.command && same_clips (chain boxes.now below.now old.run.clip) (chain boxes.now below.now new.run.clip)) }
+fn runs_alike(boxes: &[f64], below: &[u64], one: PlacedCommand, other: PlacedCommand) -> bool
+    requires { Rooted boxes.now below.now one.run.clip other.run.clip }
+    ensures { result ≡ (Drawings.runs_alike one.command other.command && same_clips (chain boxes.now below.now one.run.clip) (chain boxes.now below.now other.run.clip)) }
 {
-    let command = old.command;
-    let other = new.command;
-    let run = old.run;
-    let other_run = new.run;
-    let number = run.clip;
-    let other_number = other_run.clip;
-    if equality::runs_alike(command, other) {
-        return clips::same_clips(boxes, below, number, other_number);
-    }
-    false
+    equality::runs_alike(one.command, other.command)
+        && clips::same_clips(boxes, below, one.run.clip, other.run.clip)
 }
 
 // Appends what the old box has beside the new one, and then what the new one has beside the old.
@@ -149,22 +126,16 @@ fn changed_placed(
     requires { Pair s.now boxes.now below.now old new × (n + most_boxes < 9223372036854775808) }
     ensures { Added most_boxes rects.old n (changed_bounds (stands_for s.now boxes.now below.now old) (stands_for s.now boxes.now below.now new)) rects.new result }
 {
-    let command = old.command;
-    let other = new.command;
-    let run = old.run;
-    let other_run = new.run;
-    let bounds = old.bounds;
-    let other_bounds = new.bounds;
     if equal(s, boxes, below, old, new) {
         return n;
     }
-    if equality::fills_alike(command, other) {
-        return rect_symmetric_difference(bounds, other_bounds, rects, n);
+    if equality::fills_alike(old.command, new.command) {
+        return rect_symmetric_difference(old.bounds, new.bounds, rects, n);
     }
     if runs_alike(boxes, below, old, new) {
-        return glyph_changes::changed_glyph_bounds(s, boxes, run, other_run, rects, n);
+        return glyph_changes::changed_glyph_bounds(s, boxes, old.run, new.run, rects, n);
     }
-    rect_list::append(rects, n, bounds.union(other_bounds))
+    rect_list::append(rects, n, old.bounds.union(new.bounds))
 }
 
 // The same once both are decoded, whatever they are.
@@ -189,16 +160,11 @@ fn changed_decoded(
 
 // Whether two commands differ in an operand, and the first is no RUN: then what changed is the union of their boxes, and neither need be
 // decoded. RUNs may be alike though their boxes differ.
+#[tactic(auto, unfolding(crate::specs::Placed::apart))]
 fn apart(s: &[u8], at: usize, other: usize) -> bool
     ensures { result ≡ Placed.apart s.now at other }
 {
-    if little_endian::byte_at(s, at) == 5 {
-        return false;
-    }
-    if strip_equality::same_drawing_at(s, at, other) {
-        return false;
-    }
-    true
+    little_endian::byte_at(s, at) != 5 && !strip_equality::same_drawing_at(s, at, other)
 }
 
 // Appends the union of the boxes at two places.
@@ -215,13 +181,9 @@ fn append_union(item_boxes: &[f64], i: usize, j: usize, rects: &mut [f64], n: us
 fn same_run(s: &[u8], at: usize, other: usize) -> bool
     ensures { result ≡ true → SameRun s.now at other }
 {
-    if command_bounds::kind_at(s, at) != 5 {
-        return false;
-    }
-    if command_bounds::kind_at(s, other) != 5 {
-        return false;
-    }
-    little_endian::same_bytes(s, at, other, 103)
+    command_bounds::kind_at(s, at) == 5
+        && command_bounds::kind_at(s, other) == 5
+        && little_endian::same_bytes(s, at, other, 103)
 }
 
 // Appends the boxes of what changed in the glyphs of a RUN that stands at both places: its operands are read once.
@@ -301,18 +263,14 @@ fn append_bounds(
     ensures { Added count rects.old n (boxes_in item_boxes.now first count) rects.new result }
 {
     let mut m = n;
-    let mut p = first;
-    let mut i = count;
-    while 0 < i {
-        let b = rect_words::rect_at(item_boxes, 4 * p);
-        m = rect_list::append(rects, m, b);
-        p += 1;
-        i -= 1;
+    for i in first..first + count {
+        m = rect_list::append(rects, m, rect_words::rect_at(item_boxes, 4 * i));
     }
     m
 }
 
 // The length of the command at an offset, with its glyphs.
+#[tactic(auto, unfolding(crate::specs::Placed::whole_length))]
 fn whole_length(s: &[u8], at: usize) -> usize
     requires { at < length s.now }
     ensures { result ≡ whole_length s.now at }
@@ -332,13 +290,7 @@ fn unchanged(s: &[u8], at: usize, other: usize) -> bool
     ensures { result ≡ true → command_of s.now at [] ≡ command_of s.now other [] }
 {
     let n = whole_length(s, at);
-    if s.len() - at < n {
-        return false;
-    }
-    if s.len() - other < n {
-        return false;
-    }
-    little_endian::same_bytes(s, at, other, n)
+    n <= s.len() - at && n <= s.len() - other && little_endian::same_bytes(s, at, other, n)
 }
 
 // Whether the clips up to two numbers are equal, where those up to `known` and `other_known` are: most commands stand under the
@@ -354,12 +306,7 @@ fn clips_alike(
     requires { Rooted boxes.now below.now one other × AlikeClips boxes.now below.now known other_known }
     ensures { result ≡ same_clips (chain boxes.now below.now one) (chain boxes.now below.now other) }
 {
-    if one == known {
-        if other == other_known {
-            return true;
-        }
-    }
-    clips::same_clips(boxes, below, one, other)
+    (one, other) == (known, other_known) || clips::same_clips(boxes, below, one, other)
 }
 
 // True only where the commands at places i and j are equal.
@@ -378,12 +325,15 @@ fn same_placed(
 {
     let at = items[2 * i] as usize;
     let other = items[2 * j] as usize;
-    if unchanged(s, at, other) {
-        let clip = items[2 * i + 1];
-        let other_clip = items[2 * j + 1];
-        return clips_alike(boxes, below, clip, other_clip, known, other_known);
-    }
-    false
+    unchanged(s, at, other)
+        && clips_alike(
+            boxes,
+            below,
+            items[2 * i + 1],
+            items[2 * j + 1],
+            known,
+            other_known,
+        )
 }
 
 // Lists the boxes of what changed from a display list to another, and answers how many they are. The old list is the
@@ -402,35 +352,19 @@ pub fn diff_dirty(
     requires { Stored (old + new) s.now boxes.now below.now items.now item_boxes.now × (old ≤ 4096) × (new ≤ 4096) }
     ensures { Listed rects.old (diff_dirty (commands_in s.now boxes.now below.now items.now 0 old) (commands_in s.now boxes.now below.now items.now old new)) rects.new result }
 {
-    let mut m = 0usize;
-    let mut p = 0usize;
-    let mut q = old;
-    let mut i = old;
-    let mut j = new;
-    let mut known = 0u64;
-    let mut other_known = 0u64;
-    while 0 < i {
-        if j == 0 {
-            return append_bounds(item_boxes, p, i, rects, m);
-        }
-        let p1 = p + 1;
-        let q1 = q + 1;
-        let i1 = i - 1;
-        let j1 = j - 1;
-        if same_placed(s, boxes, below, items, p, q, known, other_known) {
-            known = items[2 * p + 1];
-            other_known = items[2 * q + 1];
-            p = p1;
-            q = q1;
-            i = i1;
-            j = j1;
+    let common = old.min(new);
+    let mut m = 0;
+    let mut known = 0;
+    let mut other_known = 0;
+    for i in 0..common {
+        let j = old + i;
+        if same_placed(s, boxes, below, items, i, j, known, other_known) {
+            known = items[2 * i + 1];
+            other_known = items[2 * j + 1];
         } else {
-            m = changed_bounds(s, boxes, below, items, item_boxes, p, q, rects, m);
-            p = p1;
-            q = q1;
-            i = i1;
-            j = j1;
+            m = changed_bounds(s, boxes, below, items, item_boxes, i, j, rects, m);
         }
     }
-    append_bounds(item_boxes, q, j, rects, m)
+    m = append_bounds(item_boxes, common, old - common, rects, m);
+    append_bounds(item_boxes, old + common, new - common, rects, m)
 }
