@@ -1,4 +1,4 @@
-use Prim.Native.Nat.{◌+◌, ◌-◌, ◌*◌, ◌≤◌}
+use Prim.Native.Nat.{◌+◌, ◌-◌, ◌≤◌}
 use Rattle.rect_list.proofs.Turns.{Going}
 use Rattle.runtime.specs.Placed.{boxes_in}
 use Rattle.runtime.proofs.append_bounds.Given as goal
