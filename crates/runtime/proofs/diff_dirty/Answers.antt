@@ -19,13 +19,13 @@ changed_bounds-m-requires c = (record { count = _; stored = c.requires.0; old = 
 pub loop-i-preserved : goal.loop-i-preserved
 loop-i-preserved c =
     elim c.if-same_placed.branch [
-      then-same_placed w ↦
-        let same = c.same_placed.ensures w.if-same_placed.true in
-        rw (w.rects-is, w.m-is, w.known-is, w.other_known-is)
-        (omega (arith, c.loop-i.invariant.0), going_skip c.loop-i.invariant.1 (changed_same _ _ _ _ _ _ c.loop-i.i (omega (arith, c.min-common.ensures, c.loop-i-test.true)) (omega (arith, c.min-common.ensures, c.loop-i-test.true)) same), clips_of c.args.s.now c.args.boxes.now c.args.below.now c.args.items.now _ _ same)
-    | else-same_placed w ↦
-        rw (w.rects-is, w.m-is, w.known-is, w.other_known-is)
-        (omega (arith, c.loop-i.invariant.0, w.changed_bounds-m.ensures.most), going_add c.loop-i.invariant.1 (changed_next _ _ _ _ _ _ c.loop-i.i (omega (arith, c.min-common.ensures, c.loop-i-test.true)) (omega (arith, c.min-common.ensures, c.loop-i-test.true))) w.changed_bounds-m.ensures, c.loop-i.invariant.2)
+      | then-same_placed w ↦
+          let same = c.same_placed.ensures w.if-same_placed.true in
+          rw (w.rects-is, w.m-is, w.known-is, w.other_known-is)
+          (omega (arith, c.loop-i.invariant.0), going_skip c.loop-i.invariant.1 (changed_same _ _ _ _ _ _ c.loop-i.i (omega (arith, c.min-common.ensures, c.loop-i-test.true)) (omega (arith, c.min-common.ensures, c.loop-i-test.true)) same), clips_of c.args.s.now c.args.boxes.now c.args.below.now c.args.items.now _ _ same)
+      | else-same_placed w ↦
+          rw (w.rects-is, w.m-is, w.known-is, w.other_known-is)
+          (omega (arith, c.loop-i.invariant.0, w.changed_bounds-m.ensures.most), going_add c.loop-i.invariant.1 (changed_next _ _ _ _ _ _ c.loop-i.i (omega (arith, c.min-common.ensures, c.loop-i-test.true)) (omega (arith, c.min-common.ensures, c.loop-i-test.true))) w.changed_bounds-m.ensures, c.loop-i.invariant.2)
     ]
 
 -- the remainders

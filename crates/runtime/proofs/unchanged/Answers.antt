@@ -9,6 +9,6 @@ use Rattle.runtime.proofs.unchanged.Goals.{then-n-s, else-n-s}
 pub returns-then-n-s-2 : goal.returns-then-n-s-2
 returns-then-n-s-2 c =
     λ e. elim c.if-n-s.branch [
-      then-n-s w ↦ same_command _ _ _ _ c.whole_length-n.ensures (omega (arith, w.if-n-s.true)) (omega (arith, leb-true _ _ (sym w.value-is ∙ c.if-n-s-2.true))) (c.same_bytes.ensures e)
-    | else-n-s w ↦ absurd (omega (arith, w.if-n-s.false, leb-true _ _ (sym w.value-is ∙ c.if-n-s-2.true)))
+      | then-n-s w ↦ same_command _ _ _ _ c.whole_length-n.ensures (omega (arith, w.if-n-s.true)) (omega (arith, leb-true _ _ (sym w.value-is ∙ c.if-n-s-2.true))) (c.same_bytes.ensures e)
+      | else-n-s w ↦ absurd (omega (arith, w.if-n-s.false, leb-true _ _ (sym w.value-is ∙ c.if-n-s-2.true)))
     ]

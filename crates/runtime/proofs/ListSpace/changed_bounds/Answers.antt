@@ -1,9 +1,9 @@
--- `runtime::changed_bounds` meets its contract: three ways to the same boxes. Assumes nothing.
+-- `ListSpace::changed_bounds` meets its contract: three ways to the same boxes. Assumes nothing.
 use Rattle.runtime.proofs.InPlace.{case_apart, case_run, run_pair}
 use Rattle.runtime.proofs.Repeats.{rooted}
 use Rattle.rect_list.proofs.Appends.{added_as}
 use native.Mathlib.Omega.{arith}
-use Rattle.runtime.proofs.changed_bounds.Goals as goal
+use Rattle.runtime.proofs.ListSpace.changed_bounds.Goals as goal
 
 pub returns-then-apart : goal.returns-then-apart
 returns-then-apart c = added_as (case_apart _ _ _ _ _ _ _ c.requires.0 c.apart.ensures c.if-apart.true) (omega arith) c.append_union.ensures

@@ -1,8 +1,8 @@
--- `runtime::changed_decoded` meets its contract: what is decoded stands for the commands of the list. Assumes nothing.
+-- `ListSpace::changed_decoded` meets its contract: what is decoded stands for the commands of the list. Assumes nothing.
 use native.Mathlib.Omega.{arith}
 use Rattle.rect_list.proofs.Appends.{added_as}
 use Rattle.runtime.proofs.Pairs.{room_at, pair_of, changed_are}
-use Rattle.runtime.proofs.changed_decoded.Goals as goal
+use Rattle.runtime.proofs.ListSpace.changed_decoded.Goals as goal
 
 pub placed_at-old-requires : goal.placed_at-old-requires
 placed_at-old-requires c = room_at _ _ _ _ _ _ c.requires.0.stored _ c.requires.0.old

@@ -1,8 +1,8 @@
--- `runtime::changed_placed` meets its contract: four cases, by the first test that holds. Assumes nothing.
+-- `ListSpace::changed_placed` meets its contract: four cases, by the first test that holds. Assumes nothing.
 use native.Mathlib.Omega.{arith}
 use Rattle.rect_list.proofs.Appends.{added_as, added_none}
 use Rattle.runtime.proofs.Pairs.{clip_room, case_equal, case_fills, case_runs, case_else}
-use Rattle.runtime.proofs.changed_placed.Goals as goal
+use Rattle.runtime.proofs.ListSpace.changed_placed.Goals as goal
 
 pub equal-requires : goal.equal-requires
 equal-requires c = c.requires.0

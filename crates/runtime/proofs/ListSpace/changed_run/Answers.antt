@@ -1,9 +1,9 @@
--- `runtime::changed_run` meets its contract: the operands read at the one place are those at the other. Assumes nothing.
+-- `ListSpace::changed_run` meets its contract: the operands read at the one place are those at the other. Assumes nothing.
 use Rattle.runtime.proofs.InPlace.{glyphs_inside, runs_changed}
 use Rattle.command_bounds.proofs.Standing.{is_run}
 use Rattle.rect_list.proofs.Appends.{added_as}
 use native.Mathlib.Omega.{arith}
-use Rattle.runtime.proofs.changed_run.Goals as goal
+use Rattle.runtime.proofs.ListSpace.changed_run.Goals as goal
 
 pub overflow_add-at : goal.overflow_add-at
 overflow_add-at c = omega (arith, (is_run _ _ c.requires.0.same.0).1)

@@ -1,8 +1,8 @@
--- `runtime::append_bounds` meets its contract: what is left, appended to what is there, is the whole. Assumes nothing.
+-- `ListSpace::append_bounds` meets its contract: what is left, appended to what is there, is the whole. Assumes nothing.
 use native.Mathlib.Omega.{arith}
 use Rattle.rect_list.proofs.Turns.{going_start, going_skip, going_add, going_end, going_length}
 use Rattle.runtime.proofs.Changes.{boxes_start, boxes_end, boxes_to}
-use Rattle.runtime.proofs.append_bounds.Goals as goal
+use Rattle.runtime.proofs.ListSpace.append_bounds.Goals as goal
 
 pub loop-i-init : goal.loop-i-init
 loop-i-init c = (omega arith, going_skip going_start (boxes_start _ _ _))
