@@ -81,7 +81,11 @@ impl ListState {
         }
         self.depth -= 1;
         let top = self.top as usize;
-        self.top = if top != 0 && top <= below.len() { below[top - 1] } else { 0 };
+        self.top = if top != 0 && top <= below.len() {
+            below[top - 1]
+        } else {
+            0
+        };
         self
     }
 

@@ -22,6 +22,6 @@ returns-then-x-eq0 c = left_x _ _ _ _ _ _ c.loop-x.invariant c.if-x-eq0.true
 pub returns-else-x-eq0 : goal.returns-else-x-eq0
 returns-else-x-eq0 c =
     elim c.loop-x-test.branch [
-      then-loop-x-test+else-y-ne0 w ↦ ne_eqb _ 0 c.if-x-eq0.false ∙ left_y _ _ _ _ _ _ c.loop-x.invariant c.if-x-eq0.false w.if-y-ne0.false
-    | else-loop-x-test w ↦ absurd (c.if-x-eq0.false w.loop-x-test.false)
+      | then-loop-x-test+else-y-ne0 w ↦ ne_eqb _ 0 c.if-x-eq0.false ∙ left_y _ _ _ _ _ _ c.loop-x.invariant c.if-x-eq0.false w.if-y-ne0.false
+      | else-loop-x-test w ↦ absurd (c.if-x-eq0.false w.loop-x-test.false)
     ]

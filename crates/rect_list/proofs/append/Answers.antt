@@ -7,6 +7,6 @@ use Rattle.rect_list.proofs.append.Goals.{then-n-rects, else-n-rects}
 pub returns : goal.returns
 returns c =
     elim c.if-n-rects.branch [
-      then-n-rects w ↦ put_room _ _ _ _ w.if-n-rects.true (w.rects-is ∙ w.put_rect.ensures)
-    | else-n-rects w ↦ rw w.rects-is (put_full _ _ _ w.if-n-rects.false)
+      | then-n-rects w ↦ put_room _ _ _ _ w.if-n-rects.true (w.rects-is ∙ w.put_rect.ensures)
+      | else-n-rects w ↦ rw w.rects-is (put_full _ _ _ w.if-n-rects.false)
     ]

@@ -19,8 +19,8 @@ loop-part-preserved c =
     let four : length c.args.parts ≡ 4 = search rules in
     part_added _ _ (omega (arith, c.loop-part-test.true)) c.loop-part.invariant
     (elim c.match-part.branch [
-      in-Some w ↦ rw (w.rects-is, w.count-is) (some_added w.in-Some.is w.append-count.ensures)
-    | in_default w ↦ rw (w.rects-is, w.count-is) (none_added w.in_default.is)
+      | in-Some w ↦ rw (w.rects-is, w.count-is) (some_added w.in-Some.is w.append-count.ensures)
+      | in_default w ↦ rw (w.rects-is, w.count-is) (none_added w.in_default.is)
     ])
 
 pub returns : goal.returns

@@ -18,6 +18,6 @@ pub returns-else-top-ne0 : goal.returns-else-top-ne0
 unfolding popped_clip
 returns-else-top-ne0 c =
     elim c.else-top-ne0.branch [
-      else-top-ne0-via-then-top-ne0+else-top-below w ↦ simp (ne_eqb _ _ c.if-self-eq0.false, ne_eqb _ _ w.if-top-ne0.true, get_or-eq_default c.args.below.now 0 {n = c.args.self.top - 1} (omega (arith, w.if-top-below.false)))
-    | else-top-ne0-via-else-top-ne0 w ↦ simp (ne_eqb _ _ c.if-self-eq0.false, eq-eqb _ _ w.if-top-ne0.false)
+      | else-top-ne0-via-then-top-ne0+else-top-below w ↦ simp (ne_eqb _ _ c.if-self-eq0.false, ne_eqb _ _ w.if-top-ne0.true, get_or-eq_default c.args.below.now 0 {n = c.args.self.top - 1} (omega (arith, w.if-top-below.false)))
+      | else-top-ne0-via-else-top-ne0 w ↦ simp (ne_eqb _ _ c.if-self-eq0.false, eq-eqb _ _ w.if-top-ne0.false)
     ]
