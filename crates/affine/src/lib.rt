@@ -7,14 +7,14 @@ ghost use Rattle.affine.specs.Affines as Affines;
 
 use geometry::Rect;
 
-#[derive(Clone, Copy)]
+#[derive(Clone, Copy, PartialEq, Debug)]
 pub struct Point {
     pub x: f64,
     pub y: f64,
 }
 
 // The affine map of (x, y) to (a x + c y + e, b x + d y + f).
-#[derive(Clone, Copy)]
+#[derive(Clone, Copy, PartialEq, Debug)]
 pub struct Affine {
     pub a: f64,
     pub b: f64,
@@ -37,6 +37,7 @@ fn greatest(p: f64, q: f64, r: f64, s: f64) -> f64
 }
 
 // The least box over four points.
+#[tactic(auto, unfolding(crate::specs::Affines::bounding_box))]
 fn bounding_box(p: Point, q: Point, r: Point, s: Point) -> Rect
     ensures { result ≡ Affines.bounding_box p q r s }
 {
@@ -50,6 +51,7 @@ fn bounding_box(p: Point, q: Point, r: Point, s: Point) -> Rect
 
 // Whether four points are finite, by one sum: a number less itself is 0, or a NaN where it is not finite, and a sum keeps a NaN. So
 // there is one test, and not eight. The points are tested and not their box, since the larger and the smaller of two can hide a NaN.
+#[tactic(auto, using(crate::proofs::Answers::sum_tells))]
 fn all_finite(p: Point, q: Point, r: Point, s: Point) -> bool
     ensures { result ≡ Affines.all_finite p q r s }
 {
@@ -59,6 +61,7 @@ fn all_finite(p: Point, q: Point, r: Point, s: Point) -> bool
 }
 
 // The least box over four points; none where one of them is infinite or a NaN.
+#[tactic(auto, unfolding(crate::specs::Affines::bound_finite))]
 fn bound_finite(p: Point, q: Point, r: Point, s: Point) -> Option<Rect>
     ensures { result ≡ Affines.bound_finite p q r s }
 {
@@ -79,6 +82,7 @@ impl Affine {
     }
 
     // The least box over the four transformed corners.
+    #[tactic(auto, unfolding(crate::specs::Affines::transform_rect_bbox))]
     pub fn transform_rect_bbox(self, rect: Rect) -> Rect
         ensures { result ≡ Affines.transform_rect_bbox self rect }
     {
@@ -91,6 +95,7 @@ impl Affine {
     }
 
     // Whether all four transformed corners are finite, where their box is not wanted.
+    #[tactic(auto, unfolding(crate::specs::Affines::finite_corners))]
     pub fn finite_corners(self, rect: Rect) -> bool
         ensures { result ≡ Affines.finite_corners self rect }
     {
@@ -103,6 +108,7 @@ impl Affine {
     }
 
     // The same box; none where a corner is infinite or a NaN.
+    #[tactic(auto, unfolding(crate::specs::Affines::try_transform))]
     pub fn try_transform(self, rect: Rect) -> Option<Rect>
         ensures { result ≡ Affines.try_transform self rect }
     {

@@ -18,6 +18,7 @@ fn box_of_all(boxes: &[f64], number: u64) -> Rect
 }
 
 // A box cut by all clips up to a number.
+#[tactic(auto, unfolding(crate::specs::Chains::clip_rect))]
 pub fn clip_rect(boxes: &[f64], number: u64, rect: Rect) -> Rect
     requires { 8 * number ≤ length boxes.now }
     ensures { result ≡ Chains.clip_rect boxes.now number rect }
@@ -29,6 +30,7 @@ pub fn clip_rect(boxes: &[f64], number: u64, rect: Rect) -> Rect
 }
 
 // The box of all clips for one more on top of a number.
+#[tactic(auto, unfolding(crate::specs::Chains::all_with))]
 fn all_with(boxes: &[f64], top: u64, rect: Rect) -> Rect
     requires { 8 * top ≤ length boxes.now }
     ensures { result ≡ Chains.all_with boxes.now top rect }
@@ -41,6 +43,7 @@ fn all_with(boxes: &[f64], top: u64, rect: Rect) -> Rect
 }
 
 // Stores the clip after n others, on top of a number.
+#[tactic(auto, unfolding(crate::specs::Chains::put_clip))]
 pub fn put_clip(boxes: &mut [f64], below: &mut [u64], n: usize, top: u64, rect: Rect)
     requires { Chains.Room n top boxes.old below.old }
     ensures held { boxes.new ≡ Chains.put_clip boxes.old n top rect }
@@ -59,27 +62,17 @@ pub fn same_clips(boxes: &[f64], below: &[u64], one: u64, other: u64) -> bool
     requires { Chains.Rooted boxes.now below.now one other }
     ensures { result ≡ same_clips (Chains.chain boxes.now below.now one) (Chains.chain boxes.now below.now other) }
 {
+    // A clip names the one below it by its number, since lent space holds no pointers.
     let mut x = one as usize;
     let mut y = other as usize;
-    let mut same = true;
-    'walk: loop {
-        if x == 0 {
-            same = y == 0;
-            break 'walk;
-        }
-        if y == 0 {
-            same = false;
-            break 'walk;
-        }
+    while x != 0 && y != 0 {
         let clip = rect_words::rect_at(boxes, 8 * (x - 1));
         let other_clip = rect_words::rect_at(boxes, 8 * (y - 1));
-        if clip.same_edges(other_clip) {
-            x = below[x - 1] as usize;
-            y = below[y - 1] as usize;
-        } else {
-            same = false;
-            break 'walk;
+        if !clip.same_edges(other_clip) {
+            return false;
         }
+        x = below[x - 1] as usize;
+        y = below[y - 1] as usize;
     }
-    same
+    x == 0 && y == 0
 }

@@ -9,14 +9,14 @@ ghost use Rattle.commands.specs.Bounds as Bounds;
 use affine::Affine;
 use geometry::Rect;
 
-#[derive(Clone, Copy)]
+#[derive(Clone, Copy, PartialEq, Eq, Debug)]
 pub enum Join {
     Bevel,
     Miter,
     Round,
 }
 
-#[derive(Clone, Copy)]
+#[derive(Clone, Copy, PartialEq, Eq, Debug)]
 pub enum Cap {
     Butt,
     Square,
@@ -24,7 +24,7 @@ pub enum Cap {
 }
 
 // How a path is stroked; `dash` numbers a dash pattern with its offset.
-#[derive(Clone, Copy)]
+#[derive(Clone, Copy, PartialEq, Debug)]
 pub struct Stroke {
     pub width: f64,
     pub join: Join,
@@ -35,7 +35,7 @@ pub struct Stroke {
 }
 
 // A shaped glyph of a run, with its ink box in the run's coordinates.
-#[derive(Clone, Copy)]
+#[derive(Clone, Copy, PartialEq, Debug)]
 pub struct Glyph {
     pub id: u32,
     pub x: f32,

@@ -4,7 +4,6 @@ use Rattle.lists.specs.Pick.{pick}
 use Rattle.geometry.specs.declared.Rect.{Rect}
 use Rattle.geometry.specs.Boxes.{intersect, positive_area}
 use Rattle.geometry.specs.Parts.{top_part, bottom_part, left_part, right_part}
-use Rattle.differences.specs.declared.Parts.{Parts}
 
 -- "positive area only"
 unfoldable pub with_area : List Rect → List Rect
@@ -27,11 +26,12 @@ abbrev pub boxes_of : Option Rect → List Rect
 boxes_of (Some b) = b ∷ []
 boxes_of None = []
 
-abbrev pub list_of : Parts → List Rect
-list_of p = boxes_of p.first ++ (boxes_of p.second ++ (boxes_of p.third ++ boxes_of p.fourth))
+abbrev pub list_of : List (Option Rect) → List Rect
+list_of [] = []
+list_of (p ∷ ps) = boxes_of p ++ list_of ps
 
 unfoldable pub keep : Rect → Option Rect
 keep b = pick (positive_area b) (Some b) None
 
-unfoldable pub around : Rect → Rect → Parts
-around b v = record { first = keep (top_part b v); second = keep (bottom_part b v); third = keep (left_part b v); fourth = keep (right_part b v) }
+unfoldable pub around : Rect → Rect → List (Option Rect)
+around b v = keep (top_part b v) ∷ keep (bottom_part b v) ∷ keep (left_part b v) ∷ keep (right_part b v) ∷ []

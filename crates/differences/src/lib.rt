@@ -6,28 +6,17 @@ ghost use Rattle.differences.specs.Differences as Differences;
 
 use geometry::Rect;
 
-// Up to four parts, in order: dew's list of boxes, by value. A part without area is none.
-#[derive(Clone, Copy)]
-pub struct Parts {
-    pub first: Option<Rect>,
-    pub second: Option<Rect>,
-    pub third: Option<Rect>,
-    pub fourth: Option<Rect>,
-}
-
 // The box, if it has an area.
+#[tactic(auto, unfolding(crate::specs::Differences::keep))]
 fn keep(rect: Rect) -> Option<Rect>
     ensures { result ≡ Differences.keep rect }
 {
-    if rect.positive_area() {
-        Some(rect)
-    } else {
-        None
-    }
+    rect.positive_area().then_some(rect)
 }
 
 // What is left of a box around an overlap: above it, below it, left of it and right of it.
-fn around(rect: Rect, overlap: Rect) -> Parts
+#[tactic(auto, unfolding(crate::specs::Differences::around))]
+fn around(rect: Rect, overlap: Rect) -> [Option<Rect>; 4]
     ensures { result ≡ Differences.around rect overlap }
 {
     let top = Rect {
@@ -54,26 +43,17 @@ fn around(rect: Rect, overlap: Rect) -> Parts
         x1: rect.x1,
         y1: overlap.y1,
     };
-    Parts {
-        first: keep(top),
-        second: keep(bottom),
-        third: keep(left),
-        fourth: keep(right),
-    }
+    [keep(top), keep(bottom), keep(left), keep(right)]
 }
 
-// What is left of a box outside another; all of it where the two have no area in common.
-pub fn rect_difference(rect: Rect, subtract: Rect) -> Parts
+// What is left of a box outside another; all of it where the two have no area in common. It is dew's list of at
+// most four boxes, by value: none is what has no area.
+pub fn rect_difference(rect: Rect, subtract: Rect) -> [Option<Rect>; 4]
     ensures { Differences.list_of result ≡ Differences.rect_difference rect subtract }
 {
     let overlap = rect.intersect(subtract);
     if overlap.positive_area() {
         return around(rect, overlap);
     }
-    Parts {
-        first: keep(rect),
-        second: None,
-        third: None,
-        fourth: None,
-    }
+    [keep(rect), None, None, None]
 }

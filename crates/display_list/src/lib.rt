@@ -19,26 +19,19 @@ pub struct ListState {
 }
 
 // Whether a clip more can be stored, on top of a number.
+#[tactic(auto, unfolding(crate::specs::Lists::clip_room))]
 fn clip_room(clips: usize, top: u64, boxes: &[f64], below: &[u64]) -> bool
     ensures { result ≡ Lists.clip_room clips top (length boxes.now) (length below.now) }
 {
-    if top as usize <= clips {
-        if clips < below.len() {
-            return clips < boxes.len() / 8;
-        }
-        return false;
-    }
-    false
+    top as usize <= clips && clips < below.len() && clips < boxes.len() / 8
 }
 
 // Whether a command more can be stored.
+#[tactic(auto, unfolding(crate::specs::Lists::command_room))]
 fn command_room(commands: usize, items: &[u64], item_boxes: &[f64]) -> bool
     ensures { result ≡ Lists.command_room commands (length items.now) (length item_boxes.now) }
 {
-    if commands < items.len() / 2 {
-        return commands < item_boxes.len() / 4;
-    }
-    false
+    commands < items.len() / 2 && commands < item_boxes.len() / 4
 }
 
 // A glyph's box in the window: transformed, and cut by the clips up to a number.
@@ -72,10 +65,9 @@ impl ListState {
         let top = self.top;
         self.clips = n + 1;
         self.top = (n + 1) as u64;
-        self.depth = self.depth + 1;
+        self.depth += 1;
         if clip_room(n, top, boxes, below) {
             clips::put_clip(boxes, below, n, top, rect);
-            return self;
         }
         self
     }
@@ -84,21 +76,16 @@ impl ListState {
     pub fn pop_clip(mut self, below: &[u64]) -> ListState
         ensures { result ≡ Lists.popped_clip self below.now }
     {
+        if self.depth == 0 {
+            return self;
+        }
+        self.depth -= 1;
         let top = self.top as usize;
-        let depth = self.depth;
-        if depth == 0 {
-            return self;
-        }
-        self.depth = depth - 1;
-        if top == 0 {
-            self.top = 0;
-            return self;
-        }
-        if top - 1 < below.len() {
-            self.top = below[top - 1];
-            return self;
-        }
-        self.top = 0;
+        self.top = if top != 0 && top <= below.len() {
+            below[top - 1]
+        } else {
+            0
+        };
         self
     }
 
@@ -122,7 +109,6 @@ impl ListState {
             items[2 * m] = offset as u64;
             items[2 * m + 1] = top;
             rect_words::put_rect(item_boxes, 4 * m, bounds);
-            return self;
         }
         self
     }

@@ -1,214 +1,117 @@
 // Draw commands compared as dew's `DrawCommand::eq` and `changed_bounds` do. Clips and lists of glyphs are
-// compared apart.
+// compared apart, so no equality is derived: it would compare the counts of glyphs.
 #![tactic(auto)]
 
 ghost use Rattle.std.specs.Prelude.{◌≡◌};
 ghost use Rattle.equality.specs.Drawings as Drawings;
 
-use affine::Affine;
-use commands::{DrawCommand, Stroke};
-use geometry::Rect;
-use operand_equality::{both, same_affine, same_bits, same_path, stroke_eq};
-
-fn same_fill(path: u64, bounds: Rect, transform: Affine, brush: u64, other: DrawCommand) -> bool
-    ensures { result ≡ Drawings.same_fill path bounds transform brush other }
-{
-    match other {
-        DrawCommand::FillPath {
-            path: p,
-            bounds: b,
-            transform: t,
-            brush: c,
-        } => same_path(path, bounds, transform, brush, p, b, t, c),
-        DrawCommand::StrokePath { .. } => false,
-        DrawCommand::GlyphRun { .. } => false,
-        DrawCommand::Scene { .. } => false,
-    }
-}
-
-fn same_stroked(
-    path: u64,
-    bounds: Rect,
-    transform: Affine,
-    stroke: Stroke,
-    brush: u64,
-    other: DrawCommand,
-) -> bool
-    ensures { result ≡ Drawings.same_stroked path bounds transform stroke brush other }
-{
-    match other {
-        DrawCommand::StrokePath {
-            path: p,
-            bounds: b,
-            transform: t,
-            stroke: s,
-            brush: c,
-        } => {
-            both(
-                same_path(path, bounds, transform, brush, p, b, t, c),
-                stroke_eq(stroke, s),
-            )
-        }
-        DrawCommand::FillPath { .. } => false,
-        DrawCommand::GlyphRun { .. } => false,
-        DrawCommand::Scene { .. } => false,
-    }
-}
-
-fn same_run(
-    font: u64,
-    size: f32,
-    transform: Affine,
-    brush: u64,
-    bounds: Rect,
-    other: DrawCommand,
-) -> bool
-    ensures { result ≡ Drawings.same_run font size transform brush bounds other }
-{
-    match other {
-        DrawCommand::GlyphRun {
-            font: f,
-            font_size: s,
-            transform: t,
-            brush: c,
-            bounds: b,
-            glyphs: _,
-        } => {
-            both(
-                both(
-                    both(font == f, size == s),
-                    both(same_affine(transform, t), brush == c),
-                ),
-                bounds.same_edges(b),
-            )
-        }
-        DrawCommand::FillPath { .. } => false,
-        DrawCommand::StrokePath { .. } => false,
-        DrawCommand::Scene { .. } => false,
-    }
-}
-
-fn same_scene(
-    content: u64,
-    generation: u64,
-    target: u64,
-    transform: Affine,
-    bounds: Rect,
-    other: DrawCommand,
-) -> bool
-    ensures { result ≡ Drawings.same_scene content generation target transform bounds other }
-{
-    match other {
-        DrawCommand::Scene {
-            content: p,
-            generation: g,
-            target: q,
-            transform: t,
-            bounds: b,
-        } => {
-            both(
-                both(
-                    both(content == p, generation == g),
-                    both(target == q, same_affine(transform, t)),
-                ),
-                bounds.same_edges(b),
-            )
-        }
-        DrawCommand::FillPath { .. } => false,
-        DrawCommand::StrokePath { .. } => false,
-        DrawCommand::GlyphRun { .. } => false,
-    }
-}
+use commands::DrawCommand;
+use operand_equality::{same_affine, same_bits, same_path, stroke_eq};
 
 // Whether all operands are equal: dew's equality of commands, but for clips and glyphs.
+#[tactic(auto, unfolding(crate::specs::Drawings::same_drawing, crate::specs::Drawings::same_fill, crate::specs::Drawings::same_stroked, crate::specs::Drawings::same_run, crate::specs::Drawings::same_scene, operand_equality::specs::Operands::same_affine, geometry::specs::Boxes::same_edges,))]
 pub fn same_drawing(old: DrawCommand, new: DrawCommand) -> bool
     ensures { result ≡ Drawings.same_drawing old new }
 {
-    match old {
-        DrawCommand::FillPath {
-            path,
-            bounds,
-            transform,
-            brush,
-        } => same_fill(path, bounds, transform, brush, new),
-        DrawCommand::StrokePath {
-            path,
-            bounds,
-            transform,
-            stroke,
-            brush,
-        } => same_stroked(path, bounds, transform, stroke, brush, new),
-        DrawCommand::GlyphRun {
-            font,
-            font_size,
-            transform,
-            brush,
-            bounds,
-            glyphs: _,
-        } => same_run(font, font_size, transform, brush, bounds, new),
-        DrawCommand::Scene {
-            content,
-            generation,
-            target,
-            transform,
-            bounds,
-        } => same_scene(content, generation, target, transform, bounds, new),
+    match (old, new) {
+        (
+            DrawCommand::FillPath {
+                path,
+                bounds,
+                transform,
+                brush,
+            },
+            DrawCommand::FillPath {
+                path: p,
+                bounds: b,
+                transform: t,
+                brush: c,
+            },
+        ) => same_path(path, bounds, transform, brush, p, b, t, c),
+        (
+            DrawCommand::StrokePath {
+                path,
+                bounds,
+                transform,
+                stroke,
+                brush,
+            },
+            DrawCommand::StrokePath {
+                path: p,
+                bounds: b,
+                transform: t,
+                stroke: s,
+                brush: c,
+            },
+        ) => same_path(path, bounds, transform, brush, p, b, t, c) && stroke_eq(stroke, s),
+        (
+            DrawCommand::GlyphRun {
+                font,
+                font_size,
+                transform,
+                brush,
+                bounds,
+                glyphs: _,
+            },
+            DrawCommand::GlyphRun {
+                font: f,
+                font_size: s,
+                transform: t,
+                brush: c,
+                bounds: b,
+                glyphs: _,
+            },
+        ) => (font, font_size, transform, brush, bounds) == (f, s, t, c, b),
+        (
+            DrawCommand::Scene {
+                content,
+                generation,
+                target,
+                transform,
+                bounds,
+            },
+            DrawCommand::Scene {
+                content: p,
+                generation: g,
+                target: q,
+                transform: t,
+                bounds: b,
+            },
+        ) => (content, generation, target, transform, bounds) == (p, g, q, t, b),
+        _ => false,
     }
 }
 
 // Whether both are fills of one path, affine and brush.
+#[tactic(auto, unfolding(crate::specs::Drawings::fills_alike, crate::specs::Drawings::same_drawing))]
 pub fn fills_alike(old: DrawCommand, new: DrawCommand) -> bool
     ensures { result ≡ Drawings.fills_alike old new }
 {
-    match old {
-        DrawCommand::FillPath {
-            path,
-            bounds,
-            transform,
-            brush,
-        } => same_fill(path, bounds, transform, brush, new),
-        DrawCommand::StrokePath { .. } => false,
-        DrawCommand::GlyphRun { .. } => false,
-        DrawCommand::Scene { .. } => false,
-    }
-}
-
-fn run_alike(font: u64, size: f32, transform: Affine, brush: u64, other: DrawCommand) -> bool
-    ensures { result ≡ Drawings.run_alike font size transform brush other }
-{
-    match other {
-        DrawCommand::GlyphRun {
-            font: f,
-            font_size: s,
-            transform: t,
-            brush: c,
-            ..
-        } => {
-            both(
-                both(font == f, same_bits(size, s)),
-                both(same_affine(transform, t), brush == c),
-            )
-        }
-        DrawCommand::FillPath { .. } => false,
-        DrawCommand::StrokePath { .. } => false,
-        DrawCommand::Scene { .. } => false,
-    }
+    matches!(old, DrawCommand::FillPath { .. }) && same_drawing(old, new)
 }
 
 // Whether both are runs of one font, size in bits, affine and brush; the clips are compared apart.
+#[tactic(auto, unfolding(crate::specs::Drawings::runs_alike, crate::specs::Drawings::run_alike))]
 pub fn runs_alike(old: DrawCommand, new: DrawCommand) -> bool
     ensures { result ≡ Drawings.runs_alike old new }
 {
-    match old {
-        DrawCommand::GlyphRun {
-            font,
-            font_size,
-            transform,
-            brush,
-            ..
-        } => run_alike(font, font_size, transform, brush, new),
-        DrawCommand::FillPath { .. } => false,
-        DrawCommand::StrokePath { .. } => false,
-        DrawCommand::Scene { .. } => false,
+    match (old, new) {
+        (
+            DrawCommand::GlyphRun {
+                font,
+                font_size,
+                transform,
+                brush,
+                ..
+            },
+            DrawCommand::GlyphRun {
+                font: f,
+                font_size: s,
+                transform: t,
+                brush: c,
+                ..
+            },
+        ) => font == f && same_bits(font_size, s) && same_affine(transform, t) && brush == c,
+        _ => false,
     }
 }

@@ -1,5 +1,4 @@
 -- Laws of the definitions in specs/, for the crates above.
-pub mod Answers
 pub mod Edges
 pub mod Meets
 pub mod Cuts

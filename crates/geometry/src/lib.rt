@@ -7,7 +7,7 @@ ghost use Rattle.geometry.specs.Boxes as Boxes;
 ghost use Rattle.geometry.specs.Pixels as Pixels;
 
 // A box: two low edges, two high edges. It may be reversed.
-#[derive(Clone, Copy)]
+#[derive(Clone, Copy, PartialEq, Debug)]
 pub struct Rect {
     pub x0: f64,
     pub y0: f64,
@@ -54,67 +54,44 @@ impl Rect {
         }
     }
 
+    #[tactic(auto, unfolding(crate::specs::Boxes::positive_area))]
     pub fn positive_area(self) -> bool
         ensures { result ≡ Boxes.positive_area self }
     {
-        if self.x0 < self.x1 {
-            self.y0 < self.y1
-        } else {
-            false
-        }
+        self.x0 < self.x1 && self.y0 < self.y1
     }
 
     // Whether the edges are equal as numbers: 0 and -0 are.
+    #[tactic(auto, unfolding(crate::specs::Boxes::same_edges))]
     pub fn same_edges(self, other: Rect) -> bool
         ensures { result ≡ Boxes.same_edges self other }
     {
-        if self.x0 == other.x0 {
-            if self.y0 == other.y0 {
-                if self.x1 == other.x1 {
-                    self.y1 == other.y1
-                } else {
-                    false
-                }
-            } else {
-                false
-            }
-        } else {
-            false
-        }
+        self == other
     }
 
     // Whether the box overlaps the square of pixel (p, q) along both axes.
+    #[tactic(auto, unfolding(crate::specs::Pixels::meets))]
     pub fn meets(self, p: u32, q: u32) -> bool
         ensures { result ≡ Pixels.meets self p q }
     {
-        if spans(self.x0, self.x1, p) {
-            spans(self.y0, self.y1, q)
-        } else {
-            false
-        }
+        spans(self.x0, self.x1, p) && spans(self.y0, self.y1, q)
     }
 
     // Whether the box touches pixel (p, q): it has positive area and meets it.
+    #[tactic(auto, unfolding(crate::specs::Pixels::touches))]
     pub fn touches(self, p: u32, q: u32) -> bool
         ensures { result ≡ Pixels.touches self p q }
     {
-        if self.positive_area() {
-            self.meets(p, q)
-        } else {
-            false
-        }
+        self.positive_area() && self.meets(p, q)
     }
 }
 
 // Whether the numbers from low to high overlap those from n to n + 1.
+#[tactic(auto, unfolding(crate::specs::Pixels::spans))]
 fn spans(low: f64, high: f64, n: u32) -> bool
     ensures { result ≡ Pixels.spans low high n }
 {
     let start = n as u64;
     let end = start + 1;
-    if low < std::num::nearest_u64_to_f64(end) {
-        std::num::nearest_u64_to_f64(start) < high
-    } else {
-        false
-    }
+    low < std::num::nearest_u64_to_f64(end) && std::num::nearest_u64_to_f64(start) < high
 }

@@ -2,3 +2,4 @@
 pub mod Bits
 pub mod Selves
 pub mod Compared
+pub mod Strokes

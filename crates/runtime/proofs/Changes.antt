@@ -1,10 +1,12 @@
 -- What changed between runs and between lists, step by step, and the same boxes read from lent space. Assumes nothing.
 use mathlib.Core.Path.{◌≡◌, refl, sym, ap, ◌∙◌}
-use mathlib.Core.List.{List, [], ◌∷◌, ◌++◌}
-use Prim.Native.Nat.{ℕ, zero, suc, ◌+◌, ◌-◌, ◌≤◌, ◌<◌}
+use mathlib.Core.List.{List, [], ◌∷◌, ◌++◌, append-nil}
+use mathlib.Core.Logic.{◌⊎◌, inl, inr, ⊎_elim}
+use Prim.Native.Nat.{ℕ, zero, suc, ◌+◌, ◌-◌, ◌≤◌, ◌<◌, min}
 use native.Mathlib.Omega.{arith}
 use lib.Ieee.{Float}
 use Rattle.lists.specs.Pick.{pick}
+use Rattle.lists.proofs.Picks.{le_or_lt}
 use Rattle.geometry.specs.declared.Rect.{Rect}
 use Rattle.geometry.specs.Boxes.{union}
 use Rattle.commands.specs.declared.Glyph.{Glyph}
@@ -50,6 +52,15 @@ boxes_next ibs p (suc i) b h e =
     let v : p + 1 ≡ suc p = omega arith in
     rw (u, v, e)
 
+-- the same, up to a place
+pub boxes_start : (ibs : List Float) (first count : ℕ) → boxes_in ibs first count ≡ boxes_in ibs first (first + count - first)
+boxes_start ibs first count = let e : count ≡ first + count - first = omega arith in ap (boxes_in ibs first) e
+
+pub boxes_to : (ibs : List Float) (end p : ℕ) (b : Rect) → p < end → b ≡ box_at ibs p → boxes_in ibs p (end - p) ≡ (b ∷ []) ++ boxes_in ibs (p + 1) (end - (p + 1))
+boxes_to ibs end p b h e =
+    let f : end - p - 1 ≡ end - (p + 1) = omega arith in
+    boxes_next ibs p (end - p) b (omega arith) e ∙ ap (λ k. (b ∷ []) ++ boxes_in ibs (p + 1) k) f
+
 -- ---- lists
 module _ (s : List ℕ) (bs : List Float) (ns is : List ℕ) where
   pub diff_next : (p i q j : ℕ) → 0 < i → (j ≡ 0 → ⊥) → diff_dirty (commands_in s bs ns is p i) (commands_in s bs ns is q j) ≡ changed_bounds (command_in s bs ns is p) (command_in s bs ns is q) ++ diff_dirty (commands_in s bs ns is (p + 1) (i - 1)) (commands_in s bs ns is (q + 1) (j - 1))
@@ -73,3 +84,31 @@ module _ (s : List ℕ) (bs : List Float) (ns is : List ℕ) where
 
     pub diff_old : (p i q j : ℕ) → p + i ≤ n → j ≡ 0 → diff_dirty (commands_in s bs ns is p i) (commands_in s bs ns is q j) ≡ boxes_in ibs p i
     diff_old p i q j h e = ap (diff_dirty (commands_in s bs ns is p i)) (commands_end s bs ns is q j (omega arith)) ∙ old_boxes p i h
+
+    -- of two lists of which one ends, the boxes of both: those of the other alone
+    pub diff_tails : (p i q j : ℕ) → p + i ≤ n → q + j ≤ n → (i ≡ 0) ⊎ (j ≡ 0) → diff_dirty (commands_in s bs ns is p i) (commands_in s bs ns is q j) ≡ boxes_in ibs p i ++ boxes_in ibs q j
+    diff_tails p i q j h k (inl e) = diff_new p i q j k (omega arith) ∙ ap (λ l. l ++ boxes_in ibs q j) (sym (boxes_end ibs p i (omega arith)))
+    diff_tails p i q j h k (inr e) = diff_old p i q j h e ∙ sym (append-nil (boxes_in ibs p i)) ∙ ap (λ l. boxes_in ibs p i ++ l) (sym (boxes_end ibs q j (omega arith)))
+
+  -- ---- two lists of so many commands, one behind the other: what changed from place k on
+  module _ (old new : ℕ) where
+    abbrev pub changed_from : ℕ → List Rect
+    changed_from k = diff_dirty (commands_in s bs ns is k (old - k)) (commands_in s bs ns is (old + k) (new - k))
+
+    pub changed_start : diff_dirty (commands_in s bs ns is 0 old) (commands_in s bs ns is old new) ≡ changed_from 0
+    changed_start =
+        let e : old ≡ old - 0 = omega arith in
+        let f : old ≡ old + 0 = omega arith in
+        let g : new ≡ new - 0 = omega arith in
+        λ t. diff_dirty (commands_in s bs ns is 0 (e t)) (commands_in s bs ns is (f t) (g t))
+
+    pub changed_next : (k : ℕ) → k < old → k < new → changed_from k ≡ changed_bounds (command_in s bs ns is k) (command_in s bs ns is (old + k)) ++ changed_from (k + 1)
+    changed_next k h l =
+        let e : old - k - 1 ≡ old - (k + 1) = omega arith in
+        let f : old + k + 1 ≡ old + (k + 1) = omega arith in
+        let g : new - k - 1 ≡ new - (k + 1) = omega arith in
+        diff_next k (old - k) (old + k) (new - k) (omega arith) (λ z. omega arith)
+        ∙ (λ t. changed_bounds (command_in s bs ns is k) (command_in s bs ns is (old + k)) ++ diff_dirty (commands_in s bs ns is (k + 1) (e t)) (commands_in s bs ns is (f t) (g t)))
+
+    pub changed_rest : (ibs : List Float) → Stored (old + new) s bs ns is ibs → (k m : ℕ) → k ≡ m → m ≡ min old new → changed_from k ≡ boxes_in ibs m (old - m) ++ boxes_in ibs (old + m) (new - m)
+    changed_rest ibs w k m e f = ap changed_from e ∙ diff_tails ibs (old + new) w m (old - m) (old + m) (new - m) (omega arith) (omega arith) (⊎_elim (λ (h : old ≤ new). inl (omega arith)) (λ (h : new < old). inr (omega arith)) (le_or_lt old new))

@@ -9,10 +9,9 @@ use lib.Dec.{leb, eqb}
 use lib.ListN.{length, get_or}
 use lib.Ieee.{Float, binary32, to_bits}
 use lib.Ieee.Fits.{and_l, and_r}
-use borrow.Author.Tests.{eq-eqb, ne_eqb}
 use Rattle.lists.specs.Pick.{pick}
 use Rattle.lists.proofs.Bools.{is_true, holds, and_off, and_true}
-use Rattle.lists.proofs.Picks.{pick_true, pick_false, pick_cases}
+use Rattle.lists.proofs.Picks.{pick_false, pick_cases}
 use Rattle.little_endian.specs.Words.{u16_at, u64_at, f32_at}
 use Rattle.little_endian.specs.Same.{SameBytes}
 use Rattle.geometry.specs.declared.Rect.{Rect}
@@ -42,25 +41,8 @@ use Rattle.runtime.specs.Placed.{Both, placed_at, stands_for, Pair, apart, SameR
 use Rattle.runtime.specs.Placed as Placed
 use Rattle.runtime.proofs.Pairs.{pair_of, changed_are, case_equal, case_runs}
 
--- ---- the test, as the code makes it
+-- ---- what the test tells
 module _ (s : List ℕ) (p q : ℕ) where
-  pub apart_run : {b : ℕ} → b ≡ get_or s p 0 → b ≡ 5 → false ≡ apart s p q
-  unfolding apart
-  apart_run u e = sym (pick_true _ _ _ (eq-eqb (get_or s p 0) 5 (sym u ∙ e)))
-
-  module _ {b : ℕ} (u : b ≡ get_or s p 0) (off : b ≡ 5 → ⊥) {t : Bool} (v : t ≡ same_drawing (command_at s p) (command_at s q)) where
-    no_run : eqb (get_or s p 0) 5 ≡ false
-    no_run = ne_eqb (get_or s p 0) 5 (λ e. off (u ∙ e))
-
-    pub apart_same : t ≡ true → false ≡ apart s p q
-    unfolding apart
-    apart_same e = sym (pick_false _ _ _ no_run ∙ pick_true _ _ _ (sym v ∙ e))
-
-    pub apart_other : t ≡ false → true ≡ apart s p q
-    unfolding apart
-    apart_other e = sym (pick_false _ _ _ no_run ∙ pick_false _ _ _ (sym v ∙ e))
-
-  -- ---- what it tells
   told : apart s p q ≡ true → (eqb (get_or s p 0) 5 ≡ false) × (same_drawing (command_at s p) (command_at s q) ≡ false)
   unfolding apart
   told = go (eqb (get_or s p 0) 5) (same_drawing (command_at s p) (command_at s q))

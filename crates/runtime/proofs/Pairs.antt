@@ -7,19 +7,15 @@ use native.Mathlib.Omega.{arith}
 use lib.ListN.{length}
 use lib.Ieee.{Float}
 use Rattle.lists.proofs.Picks.{pick_true, pick_false}
-use Rattle.lists.proofs.Bools.{and_on, and_off, and_true}
 use Rattle.geometry.specs.declared.Rect.{Rect}
 use Rattle.geometry.specs.Boxes.{union}
-use Rattle.affine.specs.declared.Affine.{Affine}
-use Rattle.commands.specs.declared.DrawCommand.{DrawCommand}
-use Rattle.commands.specs.Bounds.{Command, transform_of, glyph_count, glyph_bounds}
-use Rattle.operand_equality.specs.Operands.{equal_glyphs, same_clips}
-use Rattle.equality.specs.Drawings.{same_drawing, equal, fills_alike, runs_alike, runs_alike_clipped}
+use Rattle.commands.specs.Bounds.{Command, glyph_bounds}
+use Rattle.operand_equality.specs.Operands.{same_clips}
+use Rattle.equality.specs.Drawings.{equal, fills_alike, runs_alike, runs_alike_clipped}
 use Rattle.differences.specs.Differences.{rect_symmetric_difference}
 use Rattle.clips.specs.Chains.{Clips}
-use Rattle.display_list.specs.Lists.{offset_at, clip_number_at, box_at, window_glyph_bounds}
+use Rattle.display_list.specs.Lists.{offset_at, window_glyph_bounds}
 use Rattle.display_list.proofs.Holding.{glyph_bounds_is}
-use Rattle.strip_format.specs.Format.{command_at}
 use Rattle.changes.specs.Changes.{changed_bounds}
 use Rattle.stored_lists.specs.Stored.{Stored, command_in}
 use Rattle.glyph_changes.specs.Runs.{glyphs_of, windowed, changed_by}
@@ -35,10 +31,6 @@ module _ (n : ℕ) (s : List ℕ) (bs : List Float) (ns is : List ℕ) (ibs : Li
   placed_at_lem : Placed w.used s bs ns (placed_at s is ibs i)
   unfolding placed_at
   placed_at_lem = record { clip = w.lower i h; glyphs = (w.whole i h).glyphs; transform = refl; box = w.boxed i h }
-
-pub placed_is : (s is : List ℕ) (ibs : List Float) (i : ℕ) {draw : DrawCommand} {n : ℕ} {t : Affine} {b : Rect} → draw ≡ command_at s (offset_at is i) → n ≡ glyph_count draw → t ≡ transform_of draw → b ≡ box_at ibs i → record { command = draw; run = record { glyphs = offset_at is i + 103; count = n; transform = t; clip = clip_number_at is i }; bounds = b } ≡ placed_at s is ibs i
-unfolding placed_at
-placed_is s is ibs i p q r e = λ k. record { command = p k; run = record { glyphs = offset_at is i + 103; count = (q ∙ ap glyph_count p) k; transform = (r ∙ ap transform_of p) k; clip = clip_number_at is i }; bounds = e k }
 
 -- two of them, once decoded
 pub pair_of : (i j : ℕ) (s : List ℕ) (bs : List Float) (ns is : List ℕ) (ibs : List Float) {a b : PlacedCommand} → Both i j s bs ns is ibs → a ≡ placed_at s is ibs i → b ≡ placed_at s is ibs j → Pair s bs ns a b
@@ -69,18 +61,6 @@ module _ (s : List ℕ) (bs : List Float) (ns : List ℕ) (a b : PlacedCommand) 
   d = stands_for s bs ns b
 
   -- equal, by the first test that fails
-  pub equal_on : {r t u : Bool} → t ≡ same_drawing a.command b.command → t ≡ true → u ≡ equal_glyphs c.glyphs d.glyphs → u ≡ true → r ≡ same_clips c.clips d.clips → r ≡ equal c d
-  unfolding equal
-  equal_on p e q f v = v ∙ and_on _ _ (and_true _ _ (sym p ∙ e) (sym q ∙ f))
-
-  pub equal_glyphs_off : {t u : Bool} → t ≡ same_drawing a.command b.command → t ≡ true → u ≡ equal_glyphs c.glyphs d.glyphs → u ≡ false → false ≡ equal c d
-  unfolding equal
-  equal_glyphs_off p e q f = and_off _ _ (sym (and_on _ _ (sym p ∙ e)) ∙ (sym q ∙ f))
-
-  pub equal_off : {t : Bool} → t ≡ same_drawing a.command b.command → t ≡ false → false ≡ equal c d
-  unfolding equal
-  equal_off p e = and_off _ _ (sym (and_off _ _ (sym p ∙ e)))
-
   -- what changed, by the first test that holds
   module _ {t : Bool} (p : t ≡ equal c d) where
     pub case_equal : t ≡ true → [] ≡ changed_bounds c d

@@ -2,15 +2,15 @@
 use mathlib.Core.Path.{◌≡◌, refl, sym, ap, ◌∙◌}
 use mathlib.Core.Bool.{true, ◌&&◌}
 use mathlib.Core.List.{List, [], ◌++◌}
-use Prim.Native.Nat.{ℕ, zero, suc, ◌+◌, ◌-◌, ◌*◌, ◌≤◌, ◌<◌}
+use Prim.Native.Nat.{ℕ, zero, suc, ◌+◌, ◌*◌, ◌≤◌, ◌<◌}
 use native.Mathlib.Omega.{arith}
 use lib.Dec.{leb, eqb}
 use lib.ListN.{length, get_or}
 use lib.Ieee.{Float}
 use lib.Ieee.Fits.{and_r}
-use borrow.Author.Tests.{eqb-true, ne_eqb}
+use borrow.Author.Tests.{eqb-true}
 use Rattle.lists.proofs.Bools.{and_true, is_true, holds}
-use Rattle.lists.proofs.Picks.{pick_true, pick_false, pick_cases}
+use Rattle.lists.proofs.Picks.{pick_true, pick_cases}
 use Rattle.little_endian.specs.Words.{u16_at}
 use Rattle.little_endian.specs.Same.{SameBytes}
 use Rattle.geometry.specs.declared.Rect.{Rect}
@@ -20,7 +20,7 @@ use Rattle.operand_equality.specs.Operands.{equal_glyphs, same_clips}
 use Rattle.operand_equality.proofs.Selves.{equal_glyph_self}
 use Rattle.equality.specs.Drawings.{same_drawing, equal}
 use Rattle.equality.proofs.Selves.{SizeFinite, drawing_self}
-use Rattle.clips.specs.Chains.{chain, Rooted}
+use Rattle.clips.specs.Chains.{Rooted}
 use Rattle.clips.proofs.Chaining.{chain_none}
 use Rattle.strip_format.specs.Format.{length_of, command_at, glyph_at, glyphs_from}
 use Rattle.strip_format.proofs.Alike.{glyphs_twice}
@@ -29,21 +29,17 @@ use Rattle.strip_format.proofs.Numbers.{single_finite, rect_numbers}
 use Rattle.strip.specs.Reading.{command_of}
 use Rattle.strip_laws.proofs.Alike.{command_twice}
 use Rattle.strip_laws.proofs.Numbers.{draw_numbers}
-use Rattle.changes.specs.Changes.{changed_bounds, diff_dirty}
+use Rattle.changes.specs.Changes.{changed_bounds}
 use Rattle.display_list.specs.Lists.{offset_at, clip_number_at}
-use Rattle.stored_lists.specs.Stored.{Stored, command_in, commands_in}
+use Rattle.stored_lists.specs.Stored.{Stored, command_in}
 use Rattle.runtime.specs.Placed.{Standing, whole_length, AlikeClips}
-use Rattle.runtime.proofs.Changes.{diff_next}
+use Rattle.runtime.proofs.Changes.{changed_from, changed_next}
 
 -- ---- a command with its glyphs is as long as both
 module _ (s : List ℕ) (at : ℕ) where
   pub whole_run : get_or s at 0 ≡ 5 → 103 + 45 * u16_at s (at + 101) ≡ whole_length s at
   unfolding whole_length
   whole_run e = rw e
-
-  pub whole_other : (get_or s at 0 ≡ 5 → ⊥) → length_of (get_or s at 0) ≡ whole_length s at
-  unfolding whole_length
-  whole_other e = sym (pick_false _ _ _ (ne_eqb (get_or s at 0) 5 e))
 
   holds_operands : length_of (get_or s at 0) ≤ whole_length s at
   unfolding whole_length
@@ -112,8 +108,8 @@ equal_clips c d e =
     is_true (same_clips c.clips d.clips) (and_r t (same_clips c.clips d.clips) (holds (t && same_clips c.clips d.clips) e))
 
 module _ (s : List ℕ) (bs : List Float) (ns is : List ℕ) where
-  pub diff_same : (p i q j : ℕ) → 0 < i → (j ≡ 0 → ⊥) → equal (command_in s bs ns is p) (command_in s bs ns is q) ≡ true → diff_dirty (commands_in s bs ns is p i) (commands_in s bs ns is q j) ≡ diff_dirty (commands_in s bs ns is (p + 1) (i - 1)) (commands_in s bs ns is (q + 1) (j - 1))
-  diff_same p i q j h k e = diff_next s bs ns is p i q j h k ∙ equal_none (command_in s bs ns is p) (command_in s bs ns is q) _ e
+  pub changed_same : (old new k : ℕ) → k < old → k < new → equal (command_in s bs ns is k) (command_in s bs ns is (old + k)) ≡ true → changed_from s bs ns is old new k ≡ changed_from s bs ns is old new (k + 1)
+  changed_same old new k h l e = changed_next s bs ns is old new k h l ∙ equal_none (command_in s bs ns is k) (command_in s bs ns is (old + k)) (changed_from s bs ns is old new (k + 1)) e
 
   pub clips_of : (p q : ℕ) → equal (command_in s bs ns is p) (command_in s bs ns is q) ≡ true → AlikeClips bs ns (clip_number_at is p) (clip_number_at is q)
   clips_of p q e = equal_clips (command_in s bs ns is p) (command_in s bs ns is q) e
@@ -122,9 +118,6 @@ module _ (s : List ℕ) (bs : List Float) (ns is : List ℕ) where
 pub no_clips_alike : (bs : List Float) (ns : List ℕ) → AlikeClips bs ns 0 0
 unfolding same_clips
 no_clips_alike bs ns = λ i. same_clips (chain_none bs ns i) (chain_none bs ns i)
-
-pub alike_as : (bs : List Float) (ns : List ℕ) {x y a b : ℕ} → x ≡ a → y ≡ b → AlikeClips bs ns a b → true ≡ same_clips (chain bs ns x) (chain bs ns y)
-alike_as bs ns e f h = sym ((λ i. same_clips (chain bs ns (e i)) (chain bs ns (f i))) ∙ h)
 
 -- ---- two places of a list
 module _ (n : ℕ) (s : List ℕ) (bs : List Float) (ns is : List ℕ) (ibs : List Float) (w : Stored n s bs ns is ibs) where

@@ -44,6 +44,17 @@ impl FrameWork {
     }
 }
 
+// The lent space of two display lists, one behind the other: the bytes of their strips, their clips, and for each command where its
+// bytes begin, its clip number and its box.
+#[derive(Clone, Copy)]
+pub struct ListSpace<'a> {
+    pub bytes: &'a [u8],
+    pub boxes: &'a [f64],
+    pub below: &'a [u64],
+    pub items: &'a [u64],
+    pub item_boxes: &'a [f64],
+}
+
 // A command of the list, decoded: its operands, its glyphs with its transform and clip number, and its box.
 #[derive(Clone, Copy)]
 struct PlacedCommand {
@@ -56,263 +67,31 @@ fn glyph_count(command: DrawCommand) -> u32
     ensures { result ≡ glyph_count command }
 {
     match command {
-        DrawCommand::FillPath { .. } => 0,
-        DrawCommand::StrokePath { .. } => 0,
         DrawCommand::GlyphRun { glyphs, .. } => glyphs,
-        DrawCommand::Scene { .. } => 0,
+        _ => 0,
     }
-}
-
-// The command at a place of the list.
-fn placed_at(s: &[u8], items: &[u64], item_boxes: &[f64], i: usize) -> PlacedCommand
-    requires { (2 * i + 2 ≤ length items.now) × (4 * i + 4 ≤ length item_boxes.now) × (offset_at items.now i ≤ length s.now) }
-    ensures { result ≡ placed_at s.now items.now item_boxes.now i }
-{
-    let at = items[2 * i] as usize;
-    let clip = items[2 * i + 1];
-    let glyphs = at + 103;
-    let bounds = rect_words::rect_at(item_boxes, 4 * i);
-    let command = strip_format::command_at(s, at);
-    let count = glyph_count(command);
-    let transform = command.transform();
-    PlacedCommand {
-        command,
-        run: Run {
-            glyphs,
-            count,
-            transform,
-            clip,
-        },
-        bounds,
-    }
-}
-
-// Whether two commands are equal. Clips, which take the longest walk, are compared where all else is equal.
-fn equal(s: &[u8], boxes: &[f64], below: &[u64], old: PlacedCommand, new: PlacedCommand) -> bool
-    requires { Pair s.now boxes.now below.now old new }
-    ensures { result ≡ Drawings.equal (stands_for s.now boxes.now below.now old) (stands_for s.now boxes.now below.now new) }
-{
-    let command = old.command;
-    let other = new.command;
-    let run = old.run;
-    let other_run = new.run;
-    let clip = run.clip;
-    let other_clip = other_run.clip;
-    if equality::same_drawing(command, other) {
-        if glyph_changes::equal_glyphs(s, run, other_run) {
-            return clips::same_clips(boxes, below, clip, other_clip);
-        }
-        return false;
-    }
-    false
-}
-
-// Whether both are runs alike in font, size, affine, brush and clips.
-fn runs_alike(boxes: &[f64], below: &[u64], old: PlacedCommand, new: PlacedCommand) -> bool
-    requires { Rooted boxes.now below.now old.run.clip new.run.clip }
-    ensures { result ≡ (Drawings.runs_alike old.command new.command && same_clips (chain boxes.now below.now old.run.clip) (chain boxes.now below.now new.run.clip)) }
-{
-    let command = old.command;
-    let other = new.command;
-    let run = old.run;
-    let other_run = new.run;
-    let number = run.clip;
-    let other_number = other_run.clip;
-    if equality::runs_alike(command, other) {
-        return clips::same_clips(boxes, below, number, other_number);
-    }
-    false
-}
-
-// Appends what the old box has beside the new one, and then what the new one has beside the old.
-fn rect_symmetric_difference(old: Rect, new: Rect, rects: &mut [f64], n: usize) -> usize
-    requires { n + 8 < 9223372036854775808 }
-    ensures { Added 8 rects.old n (rect_symmetric_difference old new) rects.new result }
-{
-    let gone = differences::rect_difference(old, new);
-    let m = rect_list::append_parts(rects, n, gone);
-    let come = differences::rect_difference(new, old);
-    rect_list::append_parts(rects, m, come)
-}
-
-// Appends the boxes of what changed from a command to another: nothing where they are equal, the difference of
-// the boxes of fills alike, the glyphs of runs alike, and else the union of both boxes.
-fn changed_placed(
-    s: &[u8],
-    boxes: &[f64],
-    below: &[u64],
-    old: PlacedCommand,
-    new: PlacedCommand,
-    rects: &mut [f64],
-    n: usize,
-) -> usize
-    requires { Pair s.now boxes.now below.now old new × (n + most_boxes < 9223372036854775808) }
-    ensures { Added most_boxes rects.old n (changed_bounds (stands_for s.now boxes.now below.now old) (stands_for s.now boxes.now below.now new)) rects.new result }
-{
-    let command = old.command;
-    let other = new.command;
-    let run = old.run;
-    let other_run = new.run;
-    let bounds = old.bounds;
-    let other_bounds = new.bounds;
-    if equal(s, boxes, below, old, new) {
-        return n;
-    }
-    if equality::fills_alike(command, other) {
-        return rect_symmetric_difference(bounds, other_bounds, rects, n);
-    }
-    if runs_alike(boxes, below, old, new) {
-        return glyph_changes::changed_glyph_bounds(s, boxes, run, other_run, rects, n);
-    }
-    rect_list::append(rects, n, bounds.union(other_bounds))
-}
-
-// The same once both are decoded, whatever they are.
-fn changed_decoded(
-    s: &[u8],
-    boxes: &[f64],
-    below: &[u64],
-    items: &[u64],
-    item_boxes: &[f64],
-    i: usize,
-    j: usize,
-    rects: &mut [f64],
-    n: usize,
-) -> usize
-    requires { Both i j s.now boxes.now below.now items.now item_boxes.now × (n + most_boxes < 9223372036854775808) }
-    ensures { Added most_boxes rects.old n (changed_bounds (command_in s.now boxes.now below.now items.now i) (command_in s.now boxes.now below.now items.now j)) rects.new result }
-{
-    let old = placed_at(s, items, item_boxes, i);
-    let new = placed_at(s, items, item_boxes, j);
-    changed_placed(s, boxes, below, old, new, rects, n)
 }
 
 // Whether two commands differ in an operand, and the first is no RUN: then what changed is the union of their boxes, and neither need be
 // decoded. RUNs may be alike though their boxes differ.
+#[tactic(auto, unfolding(crate::specs::Placed::apart))]
 fn apart(s: &[u8], at: usize, other: usize) -> bool
     ensures { result ≡ Placed.apart s.now at other }
 {
-    if little_endian::byte_at(s, at) == 5 {
-        return false;
-    }
-    if strip_equality::same_drawing_at(s, at, other) {
-        return false;
-    }
-    true
-}
-
-// Appends the union of the boxes at two places.
-fn append_union(item_boxes: &[f64], i: usize, j: usize, rects: &mut [f64], n: usize) -> usize
-    requires { (4 * i + 4 ≤ length item_boxes.now) × (4 * j + 4 ≤ length item_boxes.now) × (n < 9223372036854775808) }
-    ensures { Added 1 rects.old n (union (box_at item_boxes.now i) (box_at item_boxes.now j) ∷ []) rects.new result }
-{
-    let old = rect_words::rect_at(item_boxes, 4 * i);
-    let new = rect_words::rect_at(item_boxes, 4 * j);
-    rect_list::append(rects, n, old.union(new))
+    little_endian::byte_at(s, at) != 5 && !strip_equality::same_drawing_at(s, at, other)
 }
 
 // True only where the same RUN stands at both offsets, but for its glyphs: its bytes are the same.
 fn same_run(s: &[u8], at: usize, other: usize) -> bool
     ensures { result ≡ true → SameRun s.now at other }
 {
-    if command_bounds::kind_at(s, at) != 5 {
-        return false;
-    }
-    if command_bounds::kind_at(s, other) != 5 {
-        return false;
-    }
-    little_endian::same_bytes(s, at, other, 103)
-}
-
-// Appends the boxes of what changed in the glyphs of a RUN that stands at both places: its operands are read once.
-fn changed_run(
-    s: &[u8],
-    boxes: &[f64],
-    items: &[u64],
-    i: usize,
-    j: usize,
-    rects: &mut [f64],
-    n: usize,
-) -> usize
-    requires { RunPair s.now boxes.now items.now i j × (n + most_boxes < 9223372036854775808) }
-    ensures { Added most_boxes rects.old n (changed_by (windowed boxes.now (Placed.run_at s.now items.now i)) (windowed boxes.now (Placed.run_at s.now items.now j)) (glyphs_of s.now (Placed.run_at s.now items.now i)) (glyphs_of s.now (Placed.run_at s.now items.now j))) rects.new result }
-{
-    let at = items[2 * i] as usize;
-    let clip = items[2 * i + 1];
-    let other = items[2 * j] as usize;
-    let other_clip = items[2 * j + 1];
-    let transform = command_bounds::transform_at(s, at);
-    let count = little_endian::u16_at(s, at + 101) as u32;
-    let run = Run {
-        glyphs: at + 103,
-        count,
-        transform,
-        clip,
-    };
-    let other_run = Run {
-        glyphs: other + 103,
-        count,
-        transform,
-        clip: other_clip,
-    };
-    glyph_changes::changed_glyph_bounds(s, boxes, run, other_run, rects, n)
-}
-
-// Appends the boxes of what changed from the command at place i to the one at place j. Most that changed differ in an operand or
-// are RUNs of which only glyphs changed: those are told where they stand, and the others decoded.
-pub fn changed_bounds(
-    s: &[u8],
-    boxes: &[f64],
-    below: &[u64],
-    items: &[u64],
-    item_boxes: &[f64],
-    i: usize,
-    j: usize,
-    rects: &mut [f64],
-    n: usize,
-) -> usize
-    requires { Both i j s.now boxes.now below.now items.now item_boxes.now × (n + most_boxes < 9223372036854775808) }
-    ensures { Added most_boxes rects.old n (changed_bounds (command_in s.now boxes.now below.now items.now i) (command_in s.now boxes.now below.now items.now j)) rects.new result }
-{
-    let at = items[2 * i] as usize;
-    let other = items[2 * j] as usize;
-    if apart(s, at, other) {
-        return append_union(item_boxes, i, j, rects, n);
-    }
-    if same_run(s, at, other) {
-        let clip = items[2 * i + 1];
-        let other_clip = items[2 * j + 1];
-        if clips::same_clips(boxes, below, clip, other_clip) {
-            return changed_run(s, boxes, items, i, j, rects, n);
-        }
-    }
-    changed_decoded(s, boxes, below, items, item_boxes, i, j, rects, n)
-}
-
-// Appends the boxes of the commands from a place on.
-fn append_bounds(
-    item_boxes: &[f64],
-    first: usize,
-    count: usize,
-    rects: &mut [f64],
-    n: usize,
-) -> usize
-    requires { (4 * (first + count) ≤ length item_boxes.now) × (n + count < 9223372036854775808) }
-    ensures { Added count rects.old n (boxes_in item_boxes.now first count) rects.new result }
-{
-    let mut m = n;
-    let mut p = first;
-    let mut i = count;
-    while 0 < i {
-        let b = rect_words::rect_at(item_boxes, 4 * p);
-        m = rect_list::append(rects, m, b);
-        p += 1;
-        i -= 1;
-    }
-    m
+    command_bounds::kind_at(s, at) == 5
+        && command_bounds::kind_at(s, other) == 5
+        && little_endian::same_bytes(s, at, other, 103)
 }
 
 // The length of the command at an offset, with its glyphs.
+#[tactic(auto, unfolding(crate::specs::Placed::whole_length))]
 fn whole_length(s: &[u8], at: usize) -> usize
     requires { at < length s.now }
     ensures { result ≡ whole_length s.now at }
@@ -332,58 +111,189 @@ fn unchanged(s: &[u8], at: usize, other: usize) -> bool
     ensures { result ≡ true → command_of s.now at [] ≡ command_of s.now other [] }
 {
     let n = whole_length(s, at);
-    if s.len() - at < n {
-        return false;
-    }
-    if s.len() - other < n {
-        return false;
-    }
-    little_endian::same_bytes(s, at, other, n)
+    n <= s.len() - at && n <= s.len() - other && little_endian::same_bytes(s, at, other, n)
 }
 
-// Whether the clips up to two numbers are equal, where those up to `known` and `other_known` are: most commands stand under the
-// same clips as the one before, and then no clip is compared again.
-fn clips_alike(
-    boxes: &[f64],
-    below: &[u64],
-    one: u64,
-    other: u64,
-    known: u64,
-    other_known: u64,
-) -> bool
-    requires { Rooted boxes.now below.now one other × AlikeClips boxes.now below.now known other_known }
-    ensures { result ≡ same_clips (chain boxes.now below.now one) (chain boxes.now below.now other) }
+// Appends what the old box has beside the new one, and then what the new one has beside the old.
+fn rect_symmetric_difference(old: Rect, new: Rect, rects: &mut [f64], n: usize) -> usize
+    requires { n + 8 < 9223372036854775808 }
+    ensures { Added 8 rects.old n (rect_symmetric_difference old new) rects.new result }
 {
-    if one == known {
-        if other == other_known {
-            return true;
+    let gone = differences::rect_difference(old, new);
+    let m = rect_list::append_parts(rects, n, gone);
+    let come = differences::rect_difference(new, old);
+    rect_list::append_parts(rects, m, come)
+}
+
+impl ListSpace<'_> {
+    // The command at a place of the list.
+    #[tactic(auto, unfolding(crate::specs::Placed::placed_at))]
+    fn placed_at(self, i: usize) -> PlacedCommand
+        requires { (2 * i + 2 ≤ length self.items.now) × (4 * i + 4 ≤ length self.item_boxes.now) × (offset_at self.items.now i ≤ length self.bytes.now) }
+        ensures { result ≡ placed_at self.entry.bytes.now self.entry.items.now self.entry.item_boxes.now i }
+    {
+        let at = self.items[2 * i] as usize;
+        let command = strip_format::command_at(self.bytes, at);
+        PlacedCommand {
+            command,
+            run: Run {
+                glyphs: at + 103,
+                count: glyph_count(command),
+                transform: command.transform(),
+                clip: self.items[2 * i + 1],
+            },
+            bounds: rect_words::rect_at(self.item_boxes, 4 * i),
         }
     }
-    clips::same_clips(boxes, below, one, other)
-}
 
-// True only where the commands at places i and j are equal.
-fn same_placed(
-    s: &[u8],
-    boxes: &[f64],
-    below: &[u64],
-    items: &[u64],
-    i: usize,
-    j: usize,
-    known: u64,
-    other_known: u64,
-) -> bool
-    requires { Standing s.now items.now i × Standing s.now items.now j × Rooted boxes.now below.now (clip_number_at items.now i) (clip_number_at items.now j) × AlikeClips boxes.now below.now known other_known }
-    ensures { result ≡ true → Drawings.equal (command_in s.now boxes.now below.now items.now i) (command_in s.now boxes.now below.now items.now j) ≡ true }
-{
-    let at = items[2 * i] as usize;
-    let other = items[2 * j] as usize;
-    if unchanged(s, at, other) {
-        let clip = items[2 * i + 1];
-        let other_clip = items[2 * j + 1];
-        return clips_alike(boxes, below, clip, other_clip, known, other_known);
+    // Whether two commands are equal. Clips, which take the longest walk, are compared where all else is equal.
+    #[tactic(auto, unfolding(equality::specs::Drawings::equal))]
+    fn equal(self, old: PlacedCommand, new: PlacedCommand) -> bool
+        requires { Pair self.bytes.now self.boxes.now self.below.now old new }
+        ensures { result ≡ Drawings.equal (stands_for self.entry.bytes.now self.entry.boxes.now self.entry.below.now old) (stands_for self.entry.bytes.now self.entry.boxes.now self.entry.below.now new) }
+    {
+        equality::same_drawing(old.command, new.command)
+            && glyph_changes::equal_glyphs(self.bytes, old.run, new.run)
+            && clips::same_clips(self.boxes, self.below, old.run.clip, new.run.clip)
     }
-    false
+
+    // Whether both are runs alike in font, size, affine, brush and clips.
+    fn runs_alike(self, one: PlacedCommand, other: PlacedCommand) -> bool
+        requires { Rooted self.boxes.now self.below.now one.run.clip other.run.clip }
+        ensures { result ≡ (Drawings.runs_alike one.command other.command && same_clips (chain self.entry.boxes.now self.entry.below.now one.run.clip) (chain self.entry.boxes.now self.entry.below.now other.run.clip)) }
+    {
+        equality::runs_alike(one.command, other.command)
+            && clips::same_clips(self.boxes, self.below, one.run.clip, other.run.clip)
+    }
+
+    // Appends the boxes of what changed from a command to another: nothing where they are equal, the difference of
+    // the boxes of fills alike, the glyphs of runs alike, and else the union of both boxes.
+    fn changed_placed(
+        self,
+        old: PlacedCommand,
+        new: PlacedCommand,
+        rects: &mut [f64],
+        n: usize,
+    ) -> usize
+        requires { Pair self.bytes.now self.boxes.now self.below.now old new × (n + most_boxes < 9223372036854775808) }
+        ensures { Added most_boxes rects.old n (changed_bounds (stands_for self.entry.bytes.now self.entry.boxes.now self.entry.below.now old) (stands_for self.entry.bytes.now self.entry.boxes.now self.entry.below.now new)) rects.new result }
+    {
+        if self.equal(old, new) {
+            return n;
+        }
+        if equality::fills_alike(old.command, new.command) {
+            return rect_symmetric_difference(old.bounds, new.bounds, rects, n);
+        }
+        if self.runs_alike(old, new) {
+            return glyph_changes::changed_glyph_bounds(
+                self.bytes, self.boxes, old.run, new.run, rects, n,
+            );
+        }
+        rect_list::append(rects, n, old.bounds.union(new.bounds))
+    }
+
+    // The same once both are decoded, whatever they are.
+    fn changed_decoded(self, i: usize, j: usize, rects: &mut [f64], n: usize) -> usize
+        requires { Both i j self.bytes.now self.boxes.now self.below.now self.items.now self.item_boxes.now × (n + most_boxes < 9223372036854775808) }
+        ensures { Added most_boxes rects.old n (changed_bounds (command_in self.entry.bytes.now self.entry.boxes.now self.entry.below.now self.entry.items.now i) (command_in self.entry.bytes.now self.entry.boxes.now self.entry.below.now self.entry.items.now j)) rects.new result }
+    {
+        let old = self.placed_at(i);
+        let new = self.placed_at(j);
+        self.changed_placed(old, new, rects, n)
+    }
+
+    // Appends the union of the boxes at two places.
+    fn append_union(self, i: usize, j: usize, rects: &mut [f64], n: usize) -> usize
+        requires { (4 * i + 4 ≤ length self.item_boxes.now) × (4 * j + 4 ≤ length self.item_boxes.now) × (n < 9223372036854775808) }
+        ensures { Added 1 rects.old n (union (box_at self.entry.item_boxes.now i) (box_at self.entry.item_boxes.now j) ∷ []) rects.new result }
+    {
+        let old = rect_words::rect_at(self.item_boxes, 4 * i);
+        let new = rect_words::rect_at(self.item_boxes, 4 * j);
+        rect_list::append(rects, n, old.union(new))
+    }
+
+    // Appends the boxes of what changed in the glyphs of a RUN that stands at both places: its operands are read once.
+    fn changed_run(self, i: usize, j: usize, rects: &mut [f64], n: usize) -> usize
+        requires { RunPair self.bytes.now self.boxes.now self.items.now i j × (n + most_boxes < 9223372036854775808) }
+        ensures { Added most_boxes rects.old n (changed_by (windowed self.entry.boxes.now (Placed.run_at self.entry.bytes.now self.entry.items.now i)) (windowed self.entry.boxes.now (Placed.run_at self.entry.bytes.now self.entry.items.now j)) (glyphs_of self.entry.bytes.now (Placed.run_at self.entry.bytes.now self.entry.items.now i)) (glyphs_of self.entry.bytes.now (Placed.run_at self.entry.bytes.now self.entry.items.now j))) rects.new result }
+    {
+        let at = self.items[2 * i] as usize;
+        let other = self.items[2 * j] as usize;
+        let transform = command_bounds::transform_at(self.bytes, at);
+        let count = little_endian::u16_at(self.bytes, at + 101) as u32;
+        let run = Run {
+            glyphs: at + 103,
+            count,
+            transform,
+            clip: self.items[2 * i + 1],
+        };
+        let other_run = Run {
+            glyphs: other + 103,
+            count,
+            transform,
+            clip: self.items[2 * j + 1],
+        };
+        glyph_changes::changed_glyph_bounds(self.bytes, self.boxes, run, other_run, rects, n)
+    }
+
+    // Appends the boxes of what changed from the command at place i to the one at place j. Most that changed differ in an operand or
+    // are RUNs of which only glyphs changed: those are told where they stand, and the others decoded.
+    pub fn changed_bounds(self, i: usize, j: usize, rects: &mut [f64], n: usize) -> usize
+        requires { Both i j self.bytes.now self.boxes.now self.below.now self.items.now self.item_boxes.now × (n + most_boxes < 9223372036854775808) }
+        ensures { Added most_boxes rects.old n (changed_bounds (command_in self.entry.bytes.now self.entry.boxes.now self.entry.below.now self.entry.items.now i) (command_in self.entry.bytes.now self.entry.boxes.now self.entry.below.now self.entry.items.now j)) rects.new result }
+    {
+        let at = self.items[2 * i] as usize;
+        let other = self.items[2 * j] as usize;
+        if apart(self.bytes, at, other) {
+            return self.append_union(i, j, rects, n);
+        }
+        if same_run(self.bytes, at, other) {
+            let clip = self.items[2 * i + 1];
+            let other_clip = self.items[2 * j + 1];
+            if clips::same_clips(self.boxes, self.below, clip, other_clip) {
+                return self.changed_run(i, j, rects, n);
+            }
+        }
+        self.changed_decoded(i, j, rects, n)
+    }
+
+    // Appends the boxes of the commands from a place on.
+    fn append_bounds(self, first: usize, count: usize, rects: &mut [f64], n: usize) -> usize
+        requires { (4 * (first + count) ≤ length self.item_boxes.now) × (n + count < 9223372036854775808) }
+        ensures { Added count rects.old n (boxes_in self.entry.item_boxes.now first count) rects.new result }
+    {
+        let mut m = n;
+        for i in first..first + count {
+            m = rect_list::append(rects, m, rect_words::rect_at(self.item_boxes, 4 * i));
+        }
+        m
+    }
+
+    // Whether the clips up to two numbers are equal, where those up to `known` and `other_known` are: most commands stand under the
+    // same clips as the one before, and then no clip is compared again.
+    fn clips_alike(self, one: u64, other: u64, known: u64, other_known: u64) -> bool
+        requires { Rooted self.boxes.now self.below.now one other × AlikeClips self.boxes.now self.below.now known other_known }
+        ensures { result ≡ same_clips (chain self.entry.boxes.now self.entry.below.now one) (chain self.entry.boxes.now self.entry.below.now other) }
+    {
+        (one, other) == (known, other_known)
+            || clips::same_clips(self.boxes, self.below, one, other)
+    }
+
+    // True only where the commands at places i and j are equal.
+    fn same_placed(self, i: usize, j: usize, known: u64, other_known: u64) -> bool
+        requires { Standing self.bytes.now self.items.now i × Standing self.bytes.now self.items.now j × Rooted self.boxes.now self.below.now (clip_number_at self.items.now i) (clip_number_at self.items.now j) × AlikeClips self.boxes.now self.below.now known other_known }
+        ensures { result ≡ true → Drawings.equal (command_in self.entry.bytes.now self.entry.boxes.now self.entry.below.now self.entry.items.now i) (command_in self.entry.bytes.now self.entry.boxes.now self.entry.below.now self.entry.items.now j) ≡ true }
+    {
+        let at = self.items[2 * i] as usize;
+        let other = self.items[2 * j] as usize;
+        unchanged(self.bytes, at, other)
+            && self.clips_alike(
+                self.items[2 * i + 1],
+                self.items[2 * j + 1],
+                known,
+                other_known,
+            )
+    }
 }
 
 // Lists the boxes of what changed from a display list to another, and answers how many they are. The old list is the
@@ -402,35 +312,26 @@ pub fn diff_dirty(
     requires { Stored (old + new) s.now boxes.now below.now items.now item_boxes.now × (old ≤ 4096) × (new ≤ 4096) }
     ensures { Listed rects.old (diff_dirty (commands_in s.now boxes.now below.now items.now 0 old) (commands_in s.now boxes.now below.now items.now old new)) rects.new result }
 {
-    let mut m = 0usize;
-    let mut p = 0usize;
-    let mut q = old;
-    let mut i = old;
-    let mut j = new;
-    let mut known = 0u64;
-    let mut other_known = 0u64;
-    while 0 < i {
-        if j == 0 {
-            return append_bounds(item_boxes, p, i, rects, m);
-        }
-        let p1 = p + 1;
-        let q1 = q + 1;
-        let i1 = i - 1;
-        let j1 = j - 1;
-        if same_placed(s, boxes, below, items, p, q, known, other_known) {
-            known = items[2 * p + 1];
-            other_known = items[2 * q + 1];
-            p = p1;
-            q = q1;
-            i = i1;
-            j = j1;
+    let space = ListSpace {
+        bytes: s,
+        boxes,
+        below,
+        items,
+        item_boxes,
+    };
+    let common = old.min(new);
+    let mut m = 0;
+    let mut known = 0;
+    let mut other_known = 0;
+    for i in 0..common {
+        let j = old + i;
+        if space.same_placed(i, j, known, other_known) {
+            known = items[2 * i + 1];
+            other_known = items[2 * j + 1];
         } else {
-            m = changed_bounds(s, boxes, below, items, item_boxes, p, q, rects, m);
-            p = p1;
-            q = q1;
-            i = i1;
-            j = j1;
+            m = space.changed_bounds(i, j, rects, m);
         }
     }
-    append_bounds(item_boxes, q, j, rects, m)
+    m = space.append_bounds(common, old - common, rects, m);
+    space.append_bounds(old + common, new - common, rects, m)
 }

@@ -1,15 +1,14 @@
 -- `runtime::unchanged` meets its contract: the same bytes are decoded to the same command. Assumes nothing.
-use mathlib.Core.Bool.{true≢false}
-use mathlib.Core.Path.{sym}
+use mathlib.Core.Path.{sym, ◌∙◌}
 use native.Mathlib.Omega.{arith}
+use borrow.Author.Tests.{leb-true}
 use Rattle.runtime.proofs.Repeats.{same_command}
 use Rattle.runtime.proofs.unchanged.Goals as goal
+use Rattle.runtime.proofs.unchanged.Goals.{then-n-s, else-n-s}
 
-pub returns-then-s-at : goal.returns-then-s-at
-returns-then-s-at c = λ e. absurd (true≢false (sym e))
-
-pub returns-then-s-other : goal.returns-then-s-other
-returns-then-s-other c = λ e. absurd (true≢false (sym e))
-
-pub returns : goal.returns
-returns c = λ e. same_command _ _ _ _ c.whole_length-n.ensures (omega arith) (omega arith) (c.same_bytes.ensures e)
+pub returns-then-n-s-2 : goal.returns-then-n-s-2
+returns-then-n-s-2 c =
+    λ e. elim c.if-n-s.branch [
+      | then-n-s w ↦ same_command _ _ _ _ c.whole_length-n.ensures (omega (arith, w.if-n-s.true)) (omega (arith, leb-true _ _ (sym w.value-is ∙ c.if-n-s-2.true))) (c.same_bytes.ensures e)
+      | else-n-s w ↦ absurd (omega (arith, w.if-n-s.false, leb-true _ _ (sym w.value-is ∙ c.if-n-s-2.true)))
+    ]

@@ -33,9 +33,9 @@ returns-then-command_room c =
       boxed = rw (sym c.command_room.ensures ∙ c.if-command_room.true) c.put_rect.ensures;
     }
 
-pub returns : goal.returns
+pub returns-else-command_room : goal.returns-else-command_room
 unfolding item_words item_boxes put_item
-returns c =
+returns-else-command_room c =
     record {
       list = search rules;
       held = rw (sym c.command_room.ensures ∙ c.if-command_room.false);

@@ -16,9 +16,9 @@ returns-then-clip_room c =
       under = rw (sym c.clip_room.ensures ∙ c.if-clip_room.true) c.put_clip.ensures.under;
     }
 
-pub returns : goal.returns
+pub returns-else-clip_room : goal.returns-else-clip_room
 unfolding clip_boxes clip_numbers
-returns c =
+returns-else-clip_room c =
     record {
       list = search rules;
       held = rw (sym c.clip_room.ensures ∙ c.if-clip_room.false);

@@ -1,4 +1,0 @@
-use Rattle.affine.proofs.greatest.Goals as goal
-
-pub returns : goal.returns
-returns c = cc

@@ -1,4 +1,0 @@
-use Rattle.geometry.proofs.Rect.union.Goals as goal
-
-pub returns : goal.returns
-returns c = cc
