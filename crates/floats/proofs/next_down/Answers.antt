@@ -3,7 +3,7 @@ use Rattle.std.proofs.Common.{◌<◌, T, sym, ap, ◌∙◌, true≢false, arit
 use lib.Ieee.{lt}
 use Rattle.ieee.proofs.Rank.{middle, rank, ordered, ordered_of, no_nan, finite_not_nan, finite_above, lt_right, eq_left, eq_ranks, not_eq_ranks}
 use Rattle.ieee.proofs.Patterns.{pattern, zero_rank, no_nan_bits}
-use Rattle.floats.proofs.Tests.{zero64, zero_ordered, positive_ordered, positive_rank, not_positive_rank, infinity_positive}
+use Rattle.floats.proofs.Tests.{finite_is, zero64, zero_ordered, positive_ordered, positive_rank, not_positive_rank, infinity_positive}
 use Rattle.floats.proofs.Nexts.{Negative, negative, at_zero, above_zero, below_zero, none_below}
 use Rattle.lists.proofs.Bools.{holds}
 use Rattle.floats.proofs.next_down.Goals as goal
@@ -37,12 +37,12 @@ returns-then-y-2 c =
     sym (above_zero _ y-positive (positive_rank _ y-positive c.if-y-2.true))
 
 pub float_to_bits-result-then-is_finite : goal.float_to_bits-result-then-is_finite
-float_to_bits-result-then-is_finite c = let y = c.args.y in no_nan y (finite_not_nan y (holds _ (sym c.is_finite.ensures ∙ c.if-is_finite.true)))
+float_to_bits-result-then-is_finite c = let y = c.args.y in no_nan y (finite_not_nan y (holds _ (sym (finite_is c.args.y) ∙ sym c.is_finite.ensures.value ∙ c.if-is_finite.true)))
 
 pub overflow_add-result : goal.overflow_add-result
 overflow_add-result c =
     let y-negative : (let y = c.args.y in T (ordered y) × (0 < rank y) × (rank y < middle)) = let s = c in
-    let f = holds _ (sym c.is_finite.ensures ∙ c.if-is_finite.true) in
+    let f = holds _ (sym (finite_is c.args.y) ∙ sym c.is_finite.ensures.value ∙ c.if-is_finite.true) in
     let t = ordered_of _ s.well_formed.0.1 (finite_not_nan s.args.y f) in
     let n = not_eq_ranks s.args.y zero64 t zero_ordered c.if-y.false in
     let l = not_positive_rank s.args.y t c.if-y-2.false in
@@ -54,7 +54,7 @@ overflow_add-result c =
 pub float_from_bits-result-then-is_finite : goal.float_from_bits-result-then-is_finite
 float_from_bits-result-then-is_finite c =
     let y-negative : (let y = c.args.y in T (ordered y) × (0 < rank y) × (rank y < middle)) = let s = c in
-    let f = holds _ (sym c.is_finite.ensures ∙ c.if-is_finite.true) in
+    let f = holds _ (sym (finite_is c.args.y) ∙ sym c.is_finite.ensures.value ∙ c.if-is_finite.true) in
     let t = ordered_of _ s.well_formed.0.1 (finite_not_nan s.args.y f) in
     let n = not_eq_ranks s.args.y zero64 t zero_ordered c.if-y.false in
     let l = not_positive_rank s.args.y t c.if-y-2.false in
@@ -66,7 +66,7 @@ float_from_bits-result-then-is_finite c =
 pub returns-then-is_finite : goal.returns-then-is_finite
 returns-then-is_finite c =
     let y-negative : (let y = c.args.y in T (ordered y) × (0 < rank y) × (rank y < middle)) = let s = c in
-    let f = holds _ (sym c.is_finite.ensures ∙ c.if-is_finite.true) in
+    let f = holds _ (sym (finite_is c.args.y) ∙ sym c.is_finite.ensures.value ∙ c.if-is_finite.true) in
     let t = ordered_of _ s.well_formed.0.1 (finite_not_nan s.args.y f) in
     let n = not_eq_ranks s.args.y zero64 t zero_ordered c.if-y.false in
     let l = not_positive_rank s.args.y t c.if-y-2.false in
@@ -75,4 +75,4 @@ returns-then-is_finite c =
     let h = y-negative in sym (below_zero _ h.0 h.1 h.2)
 
 pub returns : goal.returns
-returns c = sym (none_below _ (sym c.is_finite.ensures ∙ c.if-is_finite.false) (λ e. true≢false (sym infinity_positive ∙ ap (λ z. lt zero64 z) (sym e) ∙ c.if-y-2.false)))
+returns c = sym (none_below _ (sym (finite_is c.args.y) ∙ sym c.is_finite.ensures.value ∙ c.if-is_finite.false) (λ e. true≢false (sym infinity_positive ∙ ap (λ z. lt zero64 z) (sym e) ∙ c.if-y-2.false)))
