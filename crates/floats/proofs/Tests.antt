@@ -1,41 +1,9 @@
 -- What the tests in the code of this crate show of a value. Assumes nothing.
-use Rattle.std.proofs.Common.{◌≡◌, ◌+◌, ◌-◌, ◌*◌, ◌^◌, ◌<◌, ◌≤◌, min, true, false, T, pos, sym, refl, ap, ◌∙◌, true≢false, one-mul, arith, lit≤}
-use lib.Ieee.{Float, nan, inf, fin, binary64, div, neg, fits, lt, of_bits, to_unsigned}
-use lib.Ieee.Scale.{finite}
-use Rattle.std.specs.Float.{float_is_finite}
-use Rattle.lists.proofs.Bools.{holds}
-use Rattle.ieee.proofs.Rank.{unit, unit_pos, middle, scale, rank, ordered, ordered_of, lt_ranks, not_lt_ranks, ranks_lt, lt_right}
-use Rattle.ieee.proofs.Patterns.{zero_rank, bits_ordered}
+use Rattle.std.proofs.Common.{◌≡◌, ◌-◌, ◌^◌, ◌≤◌, min, true, false, refl, arith}
+use lib.Ieee.{Float, nan, inf, fin, binary64, fits, lt, to_unsigned}
+use Rattle.ieee.proofs.Rank.{ordered_of}
 use Rattle.floats.specs.Whole.{whole, floor, ceil}
-use Rattle.floats.proofs.Wholes.{floor_at_most, floor_at_least, ceil_even}
-
--- ---- the library's test for what is finite is IEEE's
-pub finite_is : (x : Float) → float_is_finite x ≡ finite x
-unfolding float_is_finite
-finite_is nan = refl
-finite_is (inf s) = refl
-finite_is (fin s m e) = refl
-
--- ---- zero
-abbrev pub zero64 : Float
-zero64 = of_bits binary64 0
-
-pub zero_ordered : T (ordered zero64)
-zero_ordered = bits_ordered 0 (omega arith)
-
--- what lies above zero is no NaN
-pub positive_ordered : (x : Float) → fits binary64 x ≡ true → lt zero64 x ≡ true → T (ordered x)
-positive_ordered x f e = ordered_of x f (lt_right zero64 x e)
-
-pub positive_rank : (x : Float) → T (ordered x) → lt zero64 x ≡ true → middle < rank x
-positive_rank x t e = let h = lt_ranks zero64 x zero_ordered t e in omega (arith, zero_rank)
-
-pub not_positive_rank : (x : Float) → T (ordered x) → lt zero64 x ≡ false → rank x ≤ middle
-not_positive_rank x t e = let h = not_lt_ranks zero64 x zero_ordered t e in omega (arith, zero_rank)
-
-pub infinity_positive : lt zero64 (inf false) ≡ true
-unfolding of_bits lt
-infinity_positive = refl
+use Rattle.floats.proofs.Wholes.{ceil_even}
 
 -- the cast rounds down, within its range
 pub cast_floor : (x : Float) → to_unsigned 64 x ≡ min (floor x) (2 ^ 64 - 1)

@@ -36,12 +36,7 @@ pub fn floor_u64(x: f64) -> u64
 pub fn floor_to(x: f64, limit: u32) -> u32
     ensures { result ≡ min (Whole.floor x) limit }
 {
-    let below = floor_u64(x);
-    if below < limit as u64 {
-        below as u32
-    } else {
-        limit
-    }
+    floor_u64(x).min(limit as u64) as u32
 }
 
 // x rounded up, not below 0 and not above limit.
@@ -50,7 +45,7 @@ pub fn ceil_to(x: f64, limit: u32) -> u32
 {
     let below = floor_to(x, limit);
     if below < limit {
-        let back = std::num::nearest_u64_to_f64(below as u64);
+        let back = f64::from(below);
         if back < x { below + 1 } else { below }
     } else {
         limit
@@ -61,14 +56,5 @@ pub fn ceil_to(x: f64, limit: u32) -> u32
 pub fn next_down(y: f64) -> f64
     ensures { result ≡ Next.next_down y }
 {
-    if y == 0.0 {
-        return f64::from_bits(0x8000_0000_0000_0001);
-    }
-    if y > 0.0 {
-        return f64::from_bits(f64::to_bits(y) - 1);
-    }
-    if y.is_finite() {
-        return f64::from_bits(f64::to_bits(y) + 1);
-    }
-    y
+    y.next_down()
 }
