@@ -1,6 +1,5 @@
 -- The rows of a converted box lie between its rounded edges, and an edge against a whole number is its rounding against it. Assumes nothing.
-use Rattle.std.proofs.Common.{◌≡◌, ℕ, ◌-◌, ◌^◌, ◌<◌, ◌≤◌, min, max, Bool, true, false, ◌&&◌, T, ltb, sym, refl, ap, ◌∙◌, subst, le_trans, le_of_eq, arith, ltb→lt, ltb-false, Option, Some, None}
-use mir.Val.{bool_byte}
+use Rattle.std.proofs.Common.{◌≡◌, ℕ, ◌-◌, ◌^◌, ◌<◌, ◌≤◌, min, max, Bool, true, false, true≢false, not, ◌&&◌, T, ltb, sym, refl, ap, ◌∙◌, subst, le_trans, le_of_eq, arith, ltb→lt, ltb-false, Option, Some, None}
 use lib.Ieee.Fits.{and_r}
 use lib.Ieee.{Float, nan, inf, fin, binary64, fits, lt, le}
 use Rattle.lists.specs.Pick.{pick}
@@ -56,11 +55,8 @@ module _ (b : Rect) (band : DeviceRegion) where
       let q = rows_of w h r region in
       flat r (omega (arith, ends, k, q.0, q.1))
 
--- ---- a test as a number
-pub byte_most : (b : Bool) → bool_byte b ≤ 1
-byte_most true = omega arith
-byte_most false = omega arith
-
-pub byte_zero : (b : Bool) → bool_byte b ≡ 0 → b ≡ false
-byte_zero true e = absurd (omega arith)
-byte_zero false e = refl
+-- ---- where the tests do not both say that rows may be shared, one of them says that none is
+pub either_misses : {M : Type 0} (reaches below : Bool) → (reaches ≡ false → M) → (below ≡ true → M) → (reaches && not below) ≡ false → M
+either_misses false below f g e = f refl
+either_misses true true f g e = g refl
+either_misses true false f g e = absurd (true≢false e)
