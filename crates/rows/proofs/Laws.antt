@@ -1,8 +1,9 @@
 -- N4: a row of pixels lies in a band row; the rows of a box that meets a pixel hold the pixel's row. Assumes nothing.
 use mathlib.Core.Path.{◌≡◌, ap, ◌∙◌}
 use mathlib.Core.Bool.{true, false}
-use Prim.Native.Nat.{ℕ, ◌+◌, ◌-◌, ◌*◌, ◌/◌, ◌^◌, ◌≤◌, ◌<◌, min}
-use native.Mathlib.Nat.{mul-le-mul_right, div-div-eq-div-mul, add-div_right}
+use Prim.Native.Nat.{ℕ, suc, ◌+◌, ◌-◌, ◌*◌, ◌/◌, ◌%◌, ◌^◌, ◌≤◌, ◌<◌, min}
+use native.Mathlib.Nat.{mul-le-mul_right, div-div-eq-div-mul, add-div_right, le-div_iff_mul-le, div-lt_iff_lt-mul, suc-mul}
+use Rattle.std.proofs.lemmas.Grind.{div_ceil_times}
 use native.Mathlib.Omega.{arith}
 use lib.IntN.{ℤ}
 use lib.Dec.{T}
@@ -63,3 +64,12 @@ row_below h b q B Q = let l = last_row h b (omega arith) B in let m = div_le q (
 -- ---- equal heights lie in one row
 pub row_same : (x y : Float) (b rows : ℕ) → T (ordered x) → T (ordered y) → Same x y → row_of b rows x ≡ row_of b rows y
 row_same x y b rows s t p = ap (λ (z : ℕ). min (z / b) (rows - 1)) (floor_same x y s t p)
+
+-- the code divides and rounds up
+pub count_rounded_up : (h b : ℕ) → 0 < b → h / b + min 1 (h % b) ≡ row_count h b
+count_rounded_up h b p =
+    let t = h / b + min 1 (h % b) in
+    let k = div_ceil_times h b p in
+    let low : t ≤ row_count h b = (le-div_iff_mul-le {k = b} {x = t} {y = h + (b - 1)} p).1 (omega (arith, k.1)) in
+    let high : row_count h b < suc t = (div-lt_iff_lt-mul p).1 (omega (arith, suc-mul t b, k.0)) in
+    omega arith
