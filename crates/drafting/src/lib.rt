@@ -6,10 +6,8 @@ ghost use Rattle.index_words.specs.Sizes.{Size};
 ghost use Rattle.band_index.specs.Answer.{index_of, stored};
 ghost use Rattle.drafting.specs.Drafted.{draft_in, rooms, indexed, judged, StandsIf, Ready};
 
-use band_index::Built;
 use plans::Plan;
 use runtime::FrameWork;
-use scheduler::Scheduled;
 
 // The index of the commands whose boxes stand from place `first` on, for a frame whose regions are scheduled. `spans` is
 // scratch, a number for each command.
@@ -39,13 +37,13 @@ fn index_draft(
         spans,
         words,
     ) {
-        Built::Words(count) => {
+        Some(count) => {
             if room < count {
                 return Plan::Refused(10, 0);
             }
             Plan::Planned(rects, count, FrameWork::of(commands, regions, pixels))
         }
-        Built::Full => Plan::Refused(10, 0),
+        None => Plan::Refused(10, 0),
     }
 }
 
@@ -76,9 +74,9 @@ pub fn draft(
     if rect_room < n {
         return Plan::Refused(10, 0);
     }
-    match scheduler::schedule(rects, n, width, height, band_height, work, spare, regions) {
-        Scheduled::Regions(count, pixels) => {
-            if region_room < count {
+    match scheduler::schedule(rects, n, width, height, band_height, work, regions) {
+        Some(totals) => {
+            if region_room < totals.regions {
                 return Plan::Refused(10, 0);
             }
             index_draft(
@@ -88,13 +86,13 @@ pub fn draft(
                 first,
                 commands,
                 n,
-                count,
-                pixels,
+                totals.regions,
+                totals.pixels,
                 word_room,
                 spans,
                 words,
             )
         }
-        Scheduled::Full => Plan::Refused(10, 0),
+        None => Plan::Refused(10, 0),
     }
 }
