@@ -15,9 +15,9 @@ fn overwrite(words: &[u64], out: &mut [u64])
     ensures { out.new ≡ overwritten words.now out.old }
 {
     if words.len() <= out.len() {
-        lists::copy_u64(words, words.len(), out);
+        lists::copy_front(words, words.len(), out);
     } else {
-        lists::copy_u64(words, out.len(), out);
+        lists::copy_front(words, out.len(), out);
     }
 }
 

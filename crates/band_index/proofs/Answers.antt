@@ -10,7 +10,7 @@ use lib.Ieee.{Float}
 use lib.ListN.{length, take, drop, length-append, length-drop}
 use lib.Seq.{take_at, drop_at}
 use Rattle.lists.proofs.Picks.{pick_true, pick_false, by_le}
-use Rattle.band_index.specs.declared.Built.TheVariants.{Words, Full}
+use Rattle.std.proofs.Common.{Some, None}
 use Rattle.band_index.specs.Boxes.{boxes_of}
 use Rattle.index_words.specs.Sizes.{Size}
 use Rattle.index_words.specs.Index.{start_of, layout, index_words}
@@ -24,13 +24,13 @@ use Rattle.band_index.proofs.Layouts.{index_layout, index_length}
 
 -- ---- words that fit, and words that do not
 module _ (words : List ℕ) where
-  pub answer_fits : (room : ℕ) → length words ≤ room → answer words room ≡ Words (length words)
+  pub answer_fits : (room : ℕ) → length words ≤ room → answer words room ≡ Some (length words)
   unfolding answer
-  answer_fits room h = pick_true (leb (length words) room) (Words (length words)) Full (le-leb (length words) room h)
+  answer_fits room h = pick_true (leb (length words) room) (Some (length words)) None (le-leb (length words) room h)
 
-  pub answer_full : (room : ℕ) → room < length words → answer words room ≡ Full
+  pub answer_full : (room : ℕ) → room < length words → answer words room ≡ None
   unfolding answer
-  answer_full room h = pick_false (leb (length words) room) (Words (length words)) Full (lt-leb (length words) room h)
+  answer_full room h = pick_false (leb (length words) room) (Some (length words)) None (lt-leb (length words) room h)
 
   pub stored_fits : (old : List ℕ) → length words ≤ length old → stored words old ≡ words ++ drop (length words) old
   unfolding stored
@@ -74,11 +74,11 @@ module _ (band rows : ℕ) (numbers : List Float) (n : ℕ) where
     pub words_length : length words ≡ rows + 1 + entries
     words_length = omega (arith, index_length band rows numbers n)
 
-    pub build_full : (old : List ℕ) → length old < rows + 1 + entries → (Full ≡ answer words (length old)) × (old ≡ stored words old)
+    pub build_full : (old : List ℕ) → length old < rows + 1 + entries → (None ≡ answer words (length old)) × (old ≡ stored words old)
     build_full old h = (sym (answer_full words (length old) (omega (arith, words_length))), sym (stored_full words old (omega (arith, words_length))))
 
-    pub build_words : (room : ℕ) → rows + 1 + entries ≤ room → Words (rows + 1 + entries) ≡ answer words room
-    build_words room h = ap Words (sym words_length) ∙ sym (answer_fits words room (omega (arith, words_length)))
+    pub build_words : (room : ℕ) → rows + 1 + entries ≤ room → Some (rows + 1 + entries) ≡ answer words room
+    build_words room h = ap Some (sym words_length) ∙ sym (answer_fits words room (omega (arith, words_length)))
 
   -- the rows that are kept lead to the same words
   module _ (spans : List ℕ) (S : Spanned band rows numbers spans n) (size : Size rows) where

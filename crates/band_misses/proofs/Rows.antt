@@ -1,6 +1,5 @@
 -- The rows of a converted box lie between its rounded edges, and an edge against a whole number is its rounding against it. Assumes nothing.
-use Rattle.std.proofs.Common.{◌≡◌, ℕ, ◌-◌, ◌^◌, ◌<◌, ◌≤◌, min, max, Bool, true, false, ◌&&◌, T, ltb, sym, refl, ap, ◌∙◌, subst, le_trans, le_of_eq, arith, ltb→lt, ltb-false}
-use mir.Val.{bool_byte}
+use Rattle.std.proofs.Common.{◌≡◌, ℕ, ◌-◌, ◌^◌, ◌<◌, ◌≤◌, min, max, Bool, true, false, true≢false, not, ◌&&◌, T, ltb, sym, refl, ap, ◌∙◌, subst, le_trans, le_of_eq, arith, ltb→lt, ltb-false, Option, Some, None}
 use lib.Ieee.Fits.{and_r}
 use lib.Ieee.{Float, nan, inf, fin, binary64, fits, lt, le}
 use Rattle.lists.specs.Pick.{pick}
@@ -9,10 +8,8 @@ use Rattle.floats.specs.Whole.{whole, floor, ceil}
 use Rattle.floats.proofs.Wholes.{whole_ceil, floor_at_least}
 use Rattle.geometry.specs.declared.Rect.{Rect}
 use Rattle.device.specs.declared.DeviceRegion.{DeviceRegion}
-use Rattle.device.specs.declared.Converted.{Converted}
-use Rattle.device.specs.declared.Converted.TheVariants.{Region, Nothing}
 use Rattle.device.specs.Region.{between, bottom, from_logical, intersect}
-use Rattle.device.proofs.Regions.{common_flat}
+use Rattle.device.proofs.Overlaps.{above_nothing}
 use Rattle.band_misses.specs.Misses.{Misses}
 
 -- ---- edges
@@ -28,23 +25,23 @@ floor_from x p f b t =
     floor_at_least x p o (le_trans (le_of_eq (sym (rank_whole p b))) k)
 
 -- ---- rows: from the first edge up to the second
-abbrev Rows : Converted → ℕ → ℕ → Type 0
-Rows (Region r) low high = (r.y ≡ low) × (bottom r ≡ high)
-Rows Nothing low high = Unit {0}
+abbrev Rows : Option DeviceRegion → ℕ → ℕ → Type 0
+Rows (Some r) low high = (r.y ≡ low) × (bottom r ≡ high)
+Rows None low high = Unit {0}
 
 rows : (x y right high : ℕ) → Rows (between x y right high) y high
 rows x y right high = unfold between in go (ltb x right && ltb y high) (λ t. ltb→lt y high (and_r (ltb x right) (ltb y high) t))
   where
-    go : (t : Bool) → (T t → y < high) → Rows (pick t (Region (record { x = x; y = y; width = right - x; height = high - y })) Nothing) y high
+    go : (t : Bool) → (T t → y < high) → Rows (pick t (Some (record { x = x; y = y; width = right - x; height = high - y })) None) y high
     go true f = let k = f tt in (refl, omega arith)
     go false f = tt
 
 module _ (b : Rect) (band : DeviceRegion) where
-  rows_of : (w h : ℕ) (r : DeviceRegion) → from_logical b w h ≡ Region r → (r.y ≡ floor b.y0) × (bottom r ≡ min (ceil b.y1) h)
-  rows_of w h r e = subst (λ (c : Converted). Rows c (floor b.y0) (min (ceil b.y1) h)) e (rows (floor b.x0) (floor b.y0) (min (ceil b.x1) w) (min (ceil b.y1) h))
+  rows_of : (w h : ℕ) (r : DeviceRegion) → from_logical b w h ≡ Some r → (r.y ≡ floor b.y0) × (bottom r ≡ min (ceil b.y1) h)
+  rows_of w h r e = subst (λ (c : Option DeviceRegion). Rows c (floor b.y0) (min (ceil b.y1) h)) e (rows (floor b.x0) (floor b.y0) (min (ceil b.x1) w) (min (ceil b.y1) h))
 
-  flat : (r : DeviceRegion) → min (bottom r) (bottom band) ≤ max r.y band.y → intersect r band ≡ Nothing
-  flat r k = sym (common_flat r band _ _ _ _ refl refl refl refl k)
+  flat : (r : DeviceRegion) → min (bottom r) (bottom band) ≤ max r.y band.y → intersect r band ≡ None
+  flat r k = above_nothing r band k
 
   pub misses_above : (top : Float) → top ≡ whole band.y → fits binary64 b.y1 ≡ true → band.y ≤ 2 ^ 53 → lt top b.y1 ≡ false → Misses b band
   misses_above top is f small e w h r region =
@@ -58,11 +55,8 @@ module _ (b : Rect) (band : DeviceRegion) where
       let q = rows_of w h r region in
       flat r (omega (arith, ends, k, q.0, q.1))
 
--- ---- a test as a number
-pub byte_most : (b : Bool) → bool_byte b ≤ 1
-byte_most true = omega arith
-byte_most false = omega arith
-
-pub byte_zero : (b : Bool) → bool_byte b ≡ 0 → b ≡ false
-byte_zero true e = absurd (omega arith)
-byte_zero false e = refl
+-- ---- where the tests do not both say that rows may be shared, one of them says that none is
+pub either_misses : {M : Type 0} (reaches below : Bool) → (reaches ≡ false → M) → (below ≡ true → M) → (reaches && not below) ≡ false → M
+either_misses false below f g e = f refl
+either_misses true true f g e = g refl
+either_misses true false f g e = absurd (true≢false e)

@@ -1,4 +1,5 @@
 -- What holds of the regions of boxes, of regions cut to a band, and of a band's regions. Assumes nothing.
+use Rattle.std.proofs.Common.{Option, Some, None}
 use mathlib.Core.Path.{◌≡◌, refl, sym, ap, ◌∙◌, subst}
 use mathlib.Core.Logic.{inl, inr, ⊎_elim}
 use mathlib.Core.List.{List, [], ◌∷◌, ◌++◌}
@@ -8,8 +9,6 @@ use lib.ListN.{length}
 use Rattle.lists.specs.Members.{All, Any}
 use Rattle.geometry.specs.declared.Rect.{Rect}
 use Rattle.device.specs.declared.DeviceRegion.{DeviceRegion}
-use Rattle.device.specs.declared.Converted.{Converted}
-use Rattle.device.specs.declared.Converted.TheVariants.{Region, Nothing}
 use Rattle.device.specs.Region.{right, bottom, Fit, from_logical, intersect, union}
 use Rattle.device.proofs.Regions.{OnScreen, on_screen}
 use Rattle.device.proofs.Overlaps.{Overlap, part, overlap_part, by_overlap, part_fit, union_fit}
@@ -19,9 +18,9 @@ use Rattle.bands.proofs.Joins.{all_join, join_gap, sort_by_x, xy_leftward, few}
 
 -- ---- a region, unless it is nothing
 
-pub unless_append : (c : Converted) (l r : List DeviceRegion) → unless_nothing c (l ++ r) ≡ unless_nothing c l ++ r
-unless_append (Region p) l r = refl
-unless_append Nothing l r = refl
+pub unless_append : (c : Option DeviceRegion) (l r : List DeviceRegion) → unless_nothing c (l ++ r) ≡ unless_nothing c l ++ r
+unless_append (Some p) l r = refl
+unless_append None l r = refl
 
 -- ---- the regions of boxes
 
@@ -36,14 +35,14 @@ unfolding All regions_of
 all_regions P w h f [] = tt
 all_regions P w h f (b ∷ l) = go (from_logical b w h) (on_screen b w h) (all_regions P w h f l)
   where
-    go : (c : Converted) → OnScreen c w h → All P (regions_of w h l) → All P (unless_nothing c (regions_of w h l))
-    go (Region r) o a = (f r o.0 o.1 o.2 o.3, a)
-    go Nothing o a = a
+    go : (c : Option DeviceRegion) → OnScreen c w h → All P (regions_of w h l) → All P (unless_nothing c (regions_of w h l))
+    go (Some r) o a = (f r o.0 o.1 o.2 o.3, a)
+    go None o a = a
 
 -- what a box converts to is within 16 bits
-pub region_fits : (b : Rect) (w h : ℕ) → w ≤ 32768 → h ≤ 32768 → (c : Converted) → c ≡ from_logical b w h → (r : DeviceRegion) → c ≡ Region r → Fit r
+pub region_fits : (b : Rect) (w h : ℕ) → w ≤ 32768 → h ≤ 32768 → (c : Option DeviceRegion) → c ≡ from_logical b w h → (r : DeviceRegion) → c ≡ Some r → Fit r
 region_fits b w h wh hh c e r q =
-    let o : OnScreen (Region r) w h = subst (λ t. OnScreen t w h) (sym e ∙ q) (on_screen b w h) in
+    let o : OnScreen (Some r) w h = subst (λ t. OnScreen t w h) (sym e ∙ q) (on_screen b w h) in
     record { wide = omega (arith, o.2); high = omega (arith, o.3) }
 
 pub regions_fit : (w h : ℕ) → w ≤ 32768 → h ≤ 32768 → (l : List Rect) → All Fit (regions_of w h l)
@@ -60,7 +59,7 @@ pub cut_in : (band r : DeviceRegion) (l : List DeviceRegion) → Overlap r band 
 unfolding cut_to
 cut_in band r l o = ap (λ c. unless_nothing c (cut_to band l)) (overlap_part r band o)
 
-pub cut_out : (band r : DeviceRegion) (l : List DeviceRegion) → intersect r band ≡ Nothing → cut_to band (r ∷ l) ≡ cut_to band l
+pub cut_out : (band r : DeviceRegion) (l : List DeviceRegion) → intersect r band ≡ None → cut_to band (r ∷ l) ≡ cut_to band l
 unfolding cut_to
 cut_out band r l e = ap (λ c. unless_nothing c (cut_to band l)) e
 

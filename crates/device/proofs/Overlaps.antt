@@ -1,10 +1,10 @@
 -- What two regions have in common, and the least region over two, as laws. Assumes nothing.
+use Rattle.std.proofs.Common.{Some, None}
 use mathlib.Core.Path.{◌≡◌, sym, ap, ◌∙◌}
 use Prim.Native.Nat.{ℕ, ◌+◌, ◌-◌, ◌≤◌, ◌<◌, min, max}
 use native.Mathlib.Omega.{arith}
 use Rattle.lists.proofs.Picks.{by_le}
 use Rattle.device.specs.declared.DeviceRegion.{DeviceRegion}
-use Rattle.device.specs.declared.Converted.TheVariants.{Region, Nothing}
 use Rattle.device.specs.Region.{right, bottom, Fit, intersect, union}
 use Rattle.device.proofs.Regions.{between_yes, between_narrow, between_flat}
 
@@ -25,22 +25,22 @@ part a b = record {
 }
 
 module _ (a b : DeviceRegion) where
-  pub overlap_part : Overlap a b → intersect a b ≡ Region (part a b)
+  pub overlap_part : Overlap a b → intersect a b ≡ Some (part a b)
   unfolding intersect
   overlap_part o = sym (between_yes _ _ _ _ o.across o.down)
 
   -- no column in common
-  pub beside_nothing : min (right a) (right b) ≤ max a.x b.x → intersect a b ≡ Nothing
+  pub beside_nothing : min (right a) (right b) ≤ max a.x b.x → intersect a b ≡ None
   unfolding intersect
   beside_nothing h = sym (between_narrow _ _ _ _ h)
 
   -- no row in common
-  pub above_nothing : min (bottom a) (bottom b) ≤ max a.y b.y → intersect a b ≡ Nothing
+  pub above_nothing : min (bottom a) (bottom b) ≤ max a.y b.y → intersect a b ≡ None
   unfolding intersect
   above_nothing h = sym (between_flat _ _ _ _ h)
 
   -- what holds where the two overlap and where they do not holds
-  pub by_overlap : {P : Type 0} → (Overlap a b → intersect a b ≡ Region (part a b) → P) → (intersect a b ≡ Nothing → P) → P
+  pub by_overlap : {P : Type 0} → (Overlap a b → intersect a b ≡ Some (part a b) → P) → (intersect a b ≡ None → P) → P
   by_overlap f g = by_le (min (right a) (right b)) (max a.x b.x)
       (λ h. g (beside_nothing h))
       (λ h. by_le (min (bottom a) (bottom b)) (max a.y b.y)
@@ -51,7 +51,7 @@ module _ (a b : DeviceRegion) where
   part_fit f o = record { wide = omega (arith, f.wide, o.across); high = omega (arith, f.high, o.down) }
 
   -- a part that an intersection gives
-  pub common_fit : (p : DeviceRegion) → Fit a → intersect a b ≡ Region p → Fit p
+  pub common_fit : (p : DeviceRegion) → Fit a → intersect a b ≡ Some p → Fit p
   common_fit p f e = by_overlap
       (λ o q. let z : part a b ≡ p = cc in rw (← z) (part_fit f o))
       (λ q. let z : ◌≡◌ {A = ℕ} 0 1 = cc in absurd (omega arith))

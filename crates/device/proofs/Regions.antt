@@ -1,8 +1,8 @@
--- C1: on the screen, a converted region has exactly the pixels that the box meets. Beside it, what the code of the operations on
--- regions works out. Assumes nothing.
+-- C1: on the screen, a converted region has exactly the pixels that the box meets. Assumes nothing.
+use Rattle.std.proofs.Common.{Option, Some, None}
 use mathlib.Core.Path.{◌≡◌, sym, ◌∙◌}
 use mathlib.Core.Bool.{Bool, true, false, ◌&&◌}
-use Prim.Native.Nat.{ℕ, ◌+◌, ◌-◌, ◌*◌, ◌^◌, ◌≤◌, ◌<◌, min, max}
+use Prim.Native.Nat.{ℕ, ◌+◌, ◌-◌, ◌*◌, ◌^◌, ◌≤◌, ◌<◌, min}
 use native.Mathlib.Nat.{mul-le-mul}
 use native.Mathlib.Omega.{arith}
 use lib.Dec.{T, leb, ltb, leb→le, ltb→lt, lt→ltb}
@@ -10,7 +10,7 @@ use lib.Ieee.{Float}
 use lib.Ieee.Fits.{and_i, and_l, and_r}
 use borrow.Author.Tests.{lt-ltb, le-ltb}
 use Rattle.lists.specs.Pick.{pick}
-use Rattle.lists.proofs.Picks.{pick_true, pick_false}
+use Rattle.lists.proofs.Picks.{pick_true, pick_false, by_le}
 use Rattle.ieee.proofs.Rank.{ordered}
 use Rattle.floats.specs.Whole.{floor, ceil}
 use Rattle.floats.proofs.Wholes.{floor_whole, whole_ceil, floor_same, ceil_same}
@@ -18,60 +18,33 @@ use Rattle.geometry.specs.declared.Rect.{Rect}
 use Rattle.geometry.specs.Pixels.{spans, meets}
 use Rattle.geometry.proofs.Edges.{Ordered}
 use Rattle.geometry.proofs.Values.{SameBox}
-use Rattle.device.specs.declared.Converted.{Converted}
-use Rattle.device.specs.declared.Converted.TheVariants.{Region, Nothing}
 use Rattle.device.specs.declared.DeviceRegion.{DeviceRegion}
-use Rattle.device.specs.Region.{between, from_logical, has, right, bottom, intersect, union}
+use Rattle.device.specs.Region.{between, from_logical, has}
 use Rattle.lists.proofs.Bools.{and_false, and_off, and_true, same_bool}
 
 -- ---- the answers, by the sides
 module _ (x y r d : ℕ) where
-  pub between_yes : x < r → y < d → Region (record { x = x; y = y; width = r - x; height = d - y }) ≡ between x y r d
+  pub between_yes : x < r → y < d → Some (record { x = x; y = y; width = r - x; height = d - y }) ≡ between x y r d
   unfolding between
-  between_yes h k = sym (pick_true (ltb x r && ltb y d) (Region (record { x = x; y = y; width = r - x; height = d - y })) Nothing (and_true (ltb x r) (ltb y d) (lt-ltb x r h) (lt-ltb y d k)))
+  between_yes h k = sym (pick_true (ltb x r && ltb y d) (Some (record { x = x; y = y; width = r - x; height = d - y })) None (and_true (ltb x r) (ltb y d) (lt-ltb x r h) (lt-ltb y d k)))
 
-  between_no : (ltb x r && ltb y d) ≡ false → Nothing ≡ between x y r d
+  between_no : (ltb x r && ltb y d) ≡ false → None ≡ between x y r d
   unfolding between
-  between_no e = sym (pick_false (ltb x r && ltb y d) (Region (record { x = x; y = y; width = r - x; height = d - y })) Nothing e)
+  between_no e = sym (pick_false (ltb x r && ltb y d) (Some (record { x = x; y = y; width = r - x; height = d - y })) None e)
 
-  pub between_narrow : r ≤ x → Nothing ≡ between x y r d
+  pub between_narrow : r ≤ x → None ≡ between x y r d
   between_narrow h = between_no (sym (and_off (ltb x r) (ltb y d) (le-ltb x r h)))
 
-  pub between_flat : d ≤ y → Nothing ≡ between x y r d
+  pub between_flat : d ≤ y → None ≡ between x y r d
   between_flat h = between_no (and_false (ltb x r) (ltb y d) (le-ltb y d h))
 
--- what the code works out: x, y, r, d are the low edges a, b and the high edges u, v, all cut at the screen
-module _ (a b u v w h x y r d : ℕ) (p : x ≡ min a w) (q : y ≡ min b h) (s : r ≡ min u w) (t : d ≡ min v h) where
-  pub region_is : x < r → y < d → Region (record { x = x; y = y; width = r - x; height = d - y }) ≡ between a b (min u w) (min v h)
-  region_is k l =
-      let e : x ≡ a = omega arith in
-      let f : y ≡ b = omega arith in
-      between_yes x y r d k l ∙ (λ i. between (e i) (f i) (s i) (t i))
-
-  pub narrow_is : r ≤ x → Nothing ≡ between a b (min u w) (min v h)
-  narrow_is k = between_narrow a b (min u w) (min v h) (omega arith)
-
-  pub flat_is : d ≤ y → Nothing ≡ between a b (min u w) (min v h)
-  flat_is k = between_flat a b (min u w) (min v h) (omega arith)
-
--- what two regions have in common, as the code works it out
-module _ (a b : DeviceRegion) (x y r d : ℕ) (p : x ≡ max a.x b.x) (q : y ≡ max a.y b.y) (s : r ≡ min (right a) (right b)) (t : d ≡ min (bottom a) (bottom b)) where
-  pub common_is : x < r → y < d → Region (record { x = x; y = y; width = r - x; height = d - y }) ≡ intersect a b
-  unfolding intersect
-  common_is h k = between_yes x y r d h k ∙ (λ i. between (p i) (q i) (s i) (t i))
-
-  pub common_narrow : r ≤ x → Nothing ≡ intersect a b
-  unfolding intersect
-  common_narrow h = between_narrow x y r d h ∙ (λ i. between (p i) (q i) (s i) (t i))
-
-  pub common_flat : d ≤ y → Nothing ≡ intersect a b
-  unfolding intersect
-  common_flat h = between_flat x y r d h ∙ (λ i. between (p i) (q i) (s i) (t i))
-
--- the least region over two, as the code works it out
-pub union_is : (a b : DeviceRegion) (x y r d : ℕ) → x ≡ min a.x b.x → y ≡ min a.y b.y → r ≡ max (right a) (right b) → d ≡ max (bottom a) (bottom b) → ◌≡◌ {A = DeviceRegion} (record { x = x; y = y; width = r - x; height = d - y }) (union a b)
-unfolding union
-union_is a b x y r d p q s t = λ i. record { x = p i; y = q i; width = s i - p i; height = t i - q i }
+-- a low edge may be cut at the screen or not
+pub low_cut : (a b u v w h : ℕ) → between (min a w) (min b h) (min u w) (min v h) ≡ between a b (min u w) (min v h)
+low_cut a b u v w h = by_le (min u w) (min a w)
+    (λ k. sym (between_narrow (min a w) (min b h) (min u w) (min v h) k) ∙ between_narrow a b (min u w) (min v h) (omega arith))
+    (λ k. by_le (min v h) (min b h)
+    (λ l. sym (between_flat (min a w) (min b h) (min u w) (min v h) l) ∙ between_flat a b (min u w) (min v h) (omega arith))
+    (λ l. let e : min a w ≡ a = omega arith in let f : min b h ≡ b = omega arith in λ i. between (e i) (f i) (min u w) (min v h)))
 
 -- the pixels of a region are less than 2 ^ 64
 pub area_below : (w h : ℕ) → w < 2 ^ 32 → h < 2 ^ 32 → w * h < 2 ^ 64
@@ -93,7 +66,7 @@ has_between : (a b r d p q : ℕ) → has (between a b r d) p q ≡ ((leb a p &&
 unfolding between Inside
 has_between a b r d p q = go (ltb a r && ltb b d) (λ t. (ltb→lt a r (and_l (ltb a r) (ltb b d) t), ltb→lt b d (and_r (ltb a r) (ltb b d) t))) (λ h k. and_i (ltb a r) (ltb b d) (lt→ltb a r h) (lt→ltb b d k))
   where
-    go : (z : Bool) → (T z → (a < r) × (b < d)) → (a < r → b < d → T z) → has (pick z (Region (record { x = a; y = b; width = r - a; height = d - b })) Nothing) p q ≡ (Inside a r p && Inside b d q)
+    go : (z : Bool) → (T z → (a < r) × (b < d)) → (a < r → b < d → T z) → has (pick z (Some (record { x = a; y = b; width = r - a; height = d - b })) None) p q ≡ (Inside a r p && Inside b d q)
     go true f g =
         let h = f tt in
         let e : a + (r - a) ≡ r = omega arith in
@@ -117,9 +90,9 @@ has_meets b w h p q o wb hb pw qh =
     ∙ (λ i. rounded b.x0 b.x1 p w o.x0 o.x1 pw wb i && rounded b.y0 b.y1 q h o.y0 o.y1 qh hb i)
 
 -- ---- a region lies on the screen, and has pixels
-abbrev pub OnScreen : Converted → ℕ → ℕ → Type 0
-OnScreen (Region r) w h = (0 < r.width) × (0 < r.height) × (r.x + r.width ≤ w) × (r.y + r.height ≤ h)
-OnScreen Nothing w h = Unit {0}
+abbrev pub OnScreen : Option DeviceRegion → ℕ → ℕ → Type 0
+OnScreen (Some r) w h = (0 < r.width) × (0 < r.height) × (r.x + r.width ≤ w) × (r.y + r.height ≤ h)
+OnScreen None w h = Unit {0}
 
 pub on_screen : (b : Rect) (w h : ℕ) → OnScreen (from_logical b w h) w h
 on_screen b w h = cut (floor b.x0) (floor b.y0) (min (ceil b.x1) w) (min (ceil b.y1) h) (omega arith) (omega arith)
@@ -127,7 +100,7 @@ on_screen b w h = cut (floor b.x0) (floor b.y0) (min (ceil b.x1) w) (min (ceil b
     cut : (x y r d : ℕ) → r ≤ w → d ≤ h → OnScreen (between x y r d) w h
     cut x y r d k l = unfold between in go (ltb x r && ltb y d) (λ t. ltb→lt x r (and_l (ltb x r) (ltb y d) t)) (λ t. ltb→lt y d (and_r (ltb x r) (ltb y d) t))
       where
-        go : (t : Bool) → (T t → x < r) → (T t → y < d) → OnScreen (pick t (Region (record { x = x; y = y; width = r - x; height = d - y })) Nothing) w h
+        go : (t : Bool) → (T t → x < r) → (T t → y < d) → OnScreen (pick t (Some (record { x = x; y = y; width = r - x; height = d - y })) None) w h
         go true f g = let p = f tt in let q = g tt in (omega arith, omega arith, omega arith, omega arith)
         go false f g = tt
 

@@ -2,7 +2,7 @@
 // common, the least region over two, and the pixels of one.
 #![tactic(auto)]
 
-ghost use Rattle.std.specs.Prelude.{◌≡◌, min, max};
+ghost use Rattle.std.specs.Prelude.{◌≡◌};
 ghost use Rattle.device.specs.Region as Region;
 
 use geometry::Rect;
@@ -16,69 +16,61 @@ pub struct DeviceRegion {
     pub height: u32,
 }
 
-// A region, or nothing: dew's `Option<DeviceRegion>`.
-#[derive(Clone, Copy)]
-pub enum Converted {
-    Region(DeviceRegion),
-    Nothing,
+// From column x up to column right and from row y up to row bottom, or nothing where that leaves no pixel.
+#[tactic(auto, unfolding(crate::specs::Region::between))]
+fn between(x: u32, y: u32, right: u32, bottom: u32) -> Option<DeviceRegion>
+    ensures { result ≡ Region.between x y right bottom }
+{
+    if x < right && y < bottom {
+        return Some(DeviceRegion {
+            x,
+            y,
+            width: right - x,
+            height: bottom - y,
+        });
+    }
+    None
 }
 
 impl DeviceRegion {
     // The pixels of a screen that a box meets: its edges rounded outward and cut to the screen,
     // nothing where no pixel is left.
-    pub fn from_logical(bounds: Rect, screen_width: u32, screen_height: u32) -> Converted
+    #[tactic(auto, using(crate::proofs::Regions::low_cut))]
+    pub fn from_logical(bounds: Rect, screen_width: u32, screen_height: u32) -> Option<DeviceRegion>
         ensures { result ≡ Region.from_logical bounds screen_width screen_height }
     {
         let x = floats::floor_to(bounds.x0, screen_width);
         let y = floats::floor_to(bounds.y0, screen_height);
         let right = floats::ceil_to(bounds.x1, screen_width);
         let bottom = floats::ceil_to(bounds.y1, screen_height);
-        if x < right {
-            if y < bottom {
-                return Converted::Region(DeviceRegion {
-                    x,
-                    y,
-                    width: right - x,
-                    height: bottom - y,
-                });
-            }
-        }
-        Converted::Nothing
+        between(x, y, right, bottom)
     }
 
     // What both regions cover, or nothing.
-    pub fn intersect(self, other: DeviceRegion) -> Converted
+    #[tactic(auto, unfolding(crate::specs::Region::intersect))]
+    pub fn intersect(self, other: DeviceRegion) -> Option<DeviceRegion>
         requires fit { Region.Fit self }
         requires fit_2 { Region.Fit other }
         ensures { result ≡ Region.intersect self other }
     {
-        let x = larger(self.x, other.x);
-        let y = larger(self.y, other.y);
-        let right = smaller(self.x + self.width, other.x + other.width);
-        let bottom = smaller(self.y + self.height, other.y + other.height);
-        if x < right {
-            if y < bottom {
-                return Converted::Region(DeviceRegion {
-                    x,
-                    y,
-                    width: right - x,
-                    height: bottom - y,
-                });
-            }
-        }
-        Converted::Nothing
+        let x = self.x.max(other.x);
+        let y = self.y.max(other.y);
+        let right = (self.x + self.width).min(other.x + other.width);
+        let bottom = (self.y + self.height).min(other.y + other.height);
+        between(x, y, right, bottom)
     }
 
     // The least region over both.
+    #[tactic(auto, unfolding(crate::specs::Region::union))]
     pub fn union(self, other: DeviceRegion) -> DeviceRegion
         requires fit { Region.Fit self }
         requires fit_2 { Region.Fit other }
         ensures { result ≡ Region.union self other }
     {
-        let x = smaller(self.x, other.x);
-        let y = smaller(self.y, other.y);
-        let right = larger(self.x + self.width, other.x + other.width);
-        let bottom = larger(self.y + self.height, other.y + other.height);
+        let x = self.x.min(other.x);
+        let y = self.y.min(other.y);
+        let right = (self.x + self.width).max(other.x + other.width);
+        let bottom = (self.y + self.height).max(other.y + other.height);
         DeviceRegion {
             x,
             y,
@@ -93,16 +85,4 @@ impl DeviceRegion {
     {
         self.width as u64 * self.height as u64
     }
-}
-
-fn smaller(a: u32, b: u32) -> u32
-    ensures { result ≡ min a b }
-{
-    if a < b { a } else { b }
-}
-
-fn larger(a: u32, b: u32) -> u32
-    ensures { result ≡ max a b }
-{
-    if a < b { b } else { a }
 }

@@ -15,11 +15,10 @@ use lib.Ieee.Order.{drop, kept, round_mono}
 use lib.Ieee.Scale.{finite}
 use Rattle.lists.proofs.Picks.{le_or_lt}
 use Rattle.ieee.proofs.Rank.{le_not_nan, le_rank, rank, ordered, ordered_fits, not_nan}
-use Rattle.ieee.proofs.Patterns.{zero_rank}
+use Rattle.ieee.proofs.Patterns.{zero_rank, bits_ordered}
 use Rattle.floats.specs.Order.{larger, smaller}
 use Rattle.floats.specs.Whole.{whole, floor}
 use Rattle.floats.proofs.Orders.{larger_either, larger_first, smaller_first, smaller_second}
-use Rattle.floats.proofs.Tests.{zero_ordered}
 use Rattle.rows.specs.Rows.{row_of}
 use Rattle.geometry.proofs.Meets.{whole_step}
 use Rattle.dew_row.specs.DewRow.{dew_row}
@@ -75,7 +74,7 @@ module _ (b r : ℕ) (bp : 0 < b) (bb : b ≤ 32768) (rb : r < 32768) where
   row_by_lem : (y : Float) → T (ordered y) → T (finite y) → row_by (larger y (of_bits binary64 0)) ≡ min (floor y / b) r
   row_by_lem nan t f = absurd f
   row_by_lem (inf s) t f = absurd f
-  row_by_lem (fin false m e) t f = ap row_by (larger_first (fin false m e) (of_bits binary64 0) t zero_ordered (unfold rank in omega (arith, zero_rank))) ∙ quotient m e b r (ordered_fits (fin false m e) t) bp bb rb
+  row_by_lem (fin false m e) t f = ap row_by (larger_first (fin false m e) (of_bits binary64 0) t (bits_ordered 0 (omega arith)) (unfold rank in omega (arith, zero_rank))) ∙ quotient m e b r (ordered_fits (fin false m e) t) bp bb rb
   row_by_lem (fin true m e) t f =
       let k : row_by (larger (fin true m e) (of_bits binary64 0)) ≡ 0 = larger_either (λ z. row_by z ≡ 0) (fin true m e) (of_bits binary64 0) (of_negative m e) of_zero in
       k ∙ sym (none (fin true m e) (unfold floor in refl))

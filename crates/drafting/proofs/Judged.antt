@@ -1,4 +1,5 @@
 -- What the schedule and the index answer makes the answer to the draft, and their words stand where it is accepted. Assumes nothing.
+use Rattle.std.proofs.Common.{Option, Some, None}
 use mathlib.Core.Path.{◌≡◌, refl, sym, ap, ◌∙◌, subst}
 use mathlib.Core.Bool.{Bool, true, false, ◌&&◌}
 use mathlib.Core.List.{List}
@@ -17,12 +18,9 @@ use Rattle.lists.specs.Pick.{pick}
 use Rattle.runtime.specs.declared.FrameWork.{FrameWork}
 use Rattle.runtime.specs.Work.{work_of}
 use Rattle.bands.specs.Bands.{rects_to}
-use Rattle.scheduler.specs.declared.Scheduled.{Scheduled}
-use Rattle.scheduler.specs.declared.Scheduled.TheVariants.{Regions, Full}
+use Rattle.scheduler.specs.declared.Totals.{Totals}
 use Rattle.scheduler.specs.Schedule.{schedule, Answers}
 use Rattle.scheduler.proofs.Outcomes.{Listed, answered, refused as unlisted, front_words}
-use Rattle.band_index.specs.declared.Built.{Built}
-use Rattle.band_index.specs.declared.Built.TheVariants.{Words, Full as Unbuilt}
 use Rattle.band_index.specs.Answer.{index_of, answer, stored}
 use Rattle.band_index.proofs.Answers.{stored_front}
 use Rattle.plans.specs.declared.Plan.{Plan}
@@ -33,19 +31,19 @@ use Rattle.drafting.proofs.Words.{rects_length, rects_words}
 
 -- ---- the index
 module _ (ws : List ℕ) (n : ℕ) where
-  words_count : (count : ℕ) → Words count ≡ answer ws n → count ≡ length ws
+  words_count : (count : ℕ) → Some count ≡ answer ws n → count ≡ length ws
   unfolding answer
   words_count count e = go (leb (length ws) n) e
     where
-      go : (t : Bool) → Words count ≡ pick t (Words (length ws)) Unbuilt → count ≡ length ws
+      go : (t : Bool) → Some count ≡ pick t (Some (length ws)) None → count ≡ length ws
       go true e = cc
       go false e = let z : ◌≡◌ {A = ℕ} 0 1 = cc in absurd (omega arith)
 
-  words_many : Unbuilt ≡ answer ws n → n < length ws
+  words_many : None ≡ answer ws n → n < length ws
   unfolding answer
   words_many e = go (leb (length ws) n) refl e
     where
-      go : (t : Bool) → leb (length ws) n ≡ t → Unbuilt ≡ pick t (Words (length ws)) Unbuilt → n < length ws
+      go : (t : Bool) → leb (length ws) n ≡ t → None ≡ pick t (Some (length ws)) None → n < length ws
       go true h e = let z : ◌≡◌ {A = ℕ} 0 1 = cc in absurd (omega arith)
       go false h e = leb-false (length ws) n h
 
@@ -53,7 +51,7 @@ module _ (ws : List ℕ) (n : ℕ) where
 pub part_rest : (xs : List Float) (k : ℕ) → take (length xs - k) (drop k xs) ≡ drop k xs
 part_rest xs k = take_all (length xs - k) (drop k xs) (omega (arith, length-drop k xs))
 
-module _ (room rects commands regions pixels h b k : ℕ) (ibs : List Float) (old new : List ℕ) (r : Built) (part : List Float) (whole_part : part ≡ drop k ibs) (p : r ≡ answer (index_of part commands h b) (length old)) (q : new ≡ stored (index_of part commands h b) old) where
+module _ (room rects commands regions pixels h b k : ℕ) (ibs : List Float) (old new : List ℕ) (r : Option ℕ) (part : List Float) (whole_part : part ≡ drop k ibs) (p : r ≡ answer (index_of part commands h b) (length old)) (q : new ≡ stored (index_of part commands h b) old) where
   abbrev ws : List ℕ
   ws = index_of (drop k ibs) commands h b
 
@@ -66,13 +64,13 @@ module _ (room rects commands regions pixels h b k : ℕ) (ibs : List Float) (ol
   abbrev Index : Result Plan Refusal → Type 0
   Index p = (p ≡ indexed (index_of (drop k ibs) commands h b) room rects commands regions pixels) × (new ≡ stored (index_of (drop k ibs) commands h b) old)
 
-  pub index_over : (count : ℕ) → r ≡ Words count → room < count → Index (refused NoRoom 0)
+  pub index_over : (count : ℕ) → r ≡ Some count → room < count → Index (refused NoRoom 0)
   index_over count q l = let e = words_count ws (length old) count (sym q ∙ answered_is) in (rw (lt-leb (length ws) room (omega arith)), held)
 
-  pub index_fits : (count : ℕ) → r ≡ Words count → count ≤ room → (work : FrameWork) → work ≡ work_of commands regions pixels → Index (Ok (planned rects count work))
+  pub index_fits : (count : ℕ) → r ≡ Some count → count ≤ room → (work : FrameWork) → work ≡ work_of commands regions pixels → Index (Ok (planned rects count work))
   index_fits count q l work f = let e = words_count ws (length old) count (sym q ∙ answered_is) in (rw (le-leb (length ws) room (omega arith)) (λ i. Ok (planned rects (e i) (f i))), held)
 
-  pub index_full : r ≡ Unbuilt → room ≤ length old → Index (refused NoRoom 0)
+  pub index_full : r ≡ None → room ≤ length old → Index (refused NoRoom 0)
   index_full q l = let e = words_many ws (length old) (sym q ∙ answered_is) in (rw (lt-leb (length ws) room (omega arith)), held)
 
 -- ---- the draft
@@ -102,22 +100,22 @@ module _ (w h b : ℕ) (rs : List Float) (n : ℕ) (ibs : List Float) (first com
   regions_many k = fits_false (and_false (leb (length (rects_to rs n)) R) _ (rw (lt-leb (length (schedule w h b (rects_to rs n))) G k)))
 
   module _ (gs new : List ℕ) where
-    pub regions_full : 4 * G ≤ length gs → (x : Scheduled) → Answers (schedule w h b (rects_to rs n)) gs x new → x ≡ Full → (xs ws : List ℕ) → Judges (refused NoRoom 0) xs ws
-    regions_full k x a q = regions_many (omega (arith, unlisted (schedule w h b (rects_to rs n)) gs new (subst (λ (y : Scheduled). Answers (schedule w h b (rects_to rs n)) gs y new) q a)))
+    pub regions_full : 4 * G ≤ length gs → (x : Option Totals) → Answers (schedule w h b (rects_to rs n)) gs x new → x ≡ None → (xs ws : List ℕ) → Judges (refused NoRoom 0) xs ws
+    regions_full k x a q = regions_many (omega (arith, unlisted (schedule w h b (rects_to rs n)) gs new (subst (λ (y : Option Totals). Answers (schedule w h b (rects_to rs n)) gs y new) q a)))
 
-    module _ (x : Scheduled) (given : Answers (schedule w h b (rects_to rs n)) gs x new) (count pixels : ℕ) (q : x ≡ Regions count pixels) where
-      told : Answers (schedule w h b (rects_to rs n)) gs (Regions count pixels) new
-      told = subst (λ (y : Scheduled). Answers (schedule w h b (rects_to rs n)) gs y new) q given
+    module _ (x : Option Totals) (given : Answers (schedule w h b (rects_to rs n)) gs x new) (t : Totals) (q : x ≡ Some t) where
+      told : Answers (schedule w h b (rects_to rs n)) gs (Some t) new
+      told = subst (λ (y : Option Totals). Answers (schedule w h b (rects_to rs n)) gs y new) q given
 
-      pub regions_over : G < count → (xs ws : List ℕ) → Judges (refused NoRoom 0) xs ws
-      regions_over k = regions_many (omega (arith, (answered (schedule w h b (rects_to rs n)) gs new count pixels told).count_is))
+      pub regions_over : G < t.regions → (xs ws : List ℕ) → Judges (refused NoRoom 0) xs ws
+      regions_over k = regions_many (omega (arith, (answered (schedule w h b (rects_to rs n)) gs new t told).count_is))
 
-      pub regions_fit : n ≤ R → 4 * R ≤ length rs → count ≤ G → (p : Result Plan Refusal) (old ws : List ℕ) → W ≤ length old → p ≡ indexed (index_of (drop (4 * first) ibs) commands h b) W n commands count pixels → ws ≡ stored (index_of (drop (4 * first) ibs) commands h b) old → Judges p new ws
+      pub regions_fit : n ≤ R → 4 * R ≤ length rs → t.regions ≤ G → (p : Result Plan Refusal) (old ws : List ℕ) → W ≤ length old → p ≡ indexed (index_of (drop (4 * first) ibs) commands h b) W n commands t.regions t.pixels → ws ≡ stored (index_of (drop (4 * first) ibs) commands h b) old → Judges p new ws
       unfolding draft_fits
       regions_fit k l m p old ws room e f = (answer_is, stands)
         where
-          listed : Listed (schedule w h b (rects_to rs n)) gs count pixels new
-          listed = answered (schedule w h b (rects_to rs n)) gs new count pixels told
+          listed : Listed (schedule w h b (rects_to rs n)) gs t.regions t.pixels new
+          listed = answered (schedule w h b (rects_to rs n)) gs new t told
 
           words : List ℕ
           words = index_of (drop (4 * first) ibs) commands h b
@@ -128,7 +126,7 @@ module _ (w h b : ℕ) (rs : List Float) (n : ℕ) (ibs : List Float) (first com
               let v : leb (length (schedule w h b (rects_to rs n))) G ≡ true = le-leb (length (schedule w h b (rects_to rs n))) G (omega (arith, listed.count_is)) in
               e ∙ rw (u, v) (λ i. pick (leb (length words) W) (Ok (planned (sym (rects_length rs n) i) (length words) (work_of commands (listed.count_is i) (listed.pixels_are i)))) (refused NoRoom 0))
 
-          low : (t : Bool) → leb (length words) W ≡ t → accepted (pick t (Ok (planned n (length words) (work_of commands count pixels))) (refused NoRoom 0)) ≡ true → length words ≤ W
+          low : (z : Bool) → leb (length words) W ≡ z → accepted (pick z (Ok (planned n (length words) (work_of commands t.regions t.pixels))) (refused NoRoom 0)) ≡ true → length words ≤ W
           low true g q = leb-true (length words) W g
           low false g q = untrue q
 
@@ -138,6 +136,6 @@ module _ (w h b : ℕ) (rs : List Float) (n : ℕ) (ibs : List Float) (first com
               let small = low (leb (length words) W) refl (sym (ap accepted e) ∙ q) in
               record {
                 rects = ap (λ (k : ℕ). take (4 * k) rs) r ∙ rects_words rs n (omega arith);
-                regions = ap (λ (k : ℕ). take (4 * k) new) (sym listed.count_is) ∙ front_words (schedule w h b (rects_to rs n)) gs new count pixels listed;
+                regions = ap (λ (k : ℕ). take (4 * k) new) (sym listed.count_is) ∙ front_words (schedule w h b (rects_to rs n)) gs new t.regions t.pixels listed;
                 words = ap (take (length words)) f ∙ stored_front words old (omega arith);
               }

@@ -6,11 +6,9 @@ ghost use Rattle.index_words.specs.Sizes.{Size};
 ghost use Rattle.band_index.specs.Answer.{index_of, stored};
 ghost use Rattle.drafting.specs.Drafted.{draft_in, rooms, indexed, judged, StandsIf, Ready};
 
-use band_index::Built;
 use plans::Plan;
 use refusals::{Fault, Refusal};
 use runtime::FrameWork;
-use scheduler::Scheduled;
 
 // The index of the commands whose boxes stand from place `first` on, for a frame whose regions are scheduled. `spans` is
 // scratch, a number for each command.
@@ -40,7 +38,7 @@ fn index_draft(
         spans,
         words,
     ) {
-        Built::Words(count) => {
+        Some(count) => {
             if room < count {
                 return Err(Fault::NoRoom.at(0));
             }
@@ -50,7 +48,7 @@ fn index_draft(
                 work: FrameWork::of(commands, regions, pixels),
             })
         }
-        Built::Full => Err(Fault::NoRoom.at(0)),
+        None => Err(Fault::NoRoom.at(0)),
     }
 }
 
@@ -81,9 +79,9 @@ pub fn draft(
     if rect_room < n {
         return Err(Fault::NoRoom.at(0));
     }
-    match scheduler::schedule(rects, n, width, height, band_height, work, spare, regions) {
-        Scheduled::Regions(count, pixels) => {
-            if region_room < count {
+    match scheduler::schedule(rects, n, width, height, band_height, work, regions) {
+        Some(totals) => {
+            if region_room < totals.regions {
                 return Err(Fault::NoRoom.at(0));
             }
             index_draft(
@@ -93,13 +91,13 @@ pub fn draft(
                 first,
                 commands,
                 n,
-                count,
-                pixels,
+                totals.regions,
+                totals.pixels,
                 word_room,
                 spans,
                 words,
             )
         }
-        Scheduled::Full => Err(Fault::NoRoom.at(0)),
+        None => Err(Fault::NoRoom.at(0)),
     }
 }

@@ -1,7 +1,7 @@
 // Runs document 01's edges through the code that there is, and prints what it answers, a line each.
 #![tactic(auto)]
 
-use device::{Converted, DeviceRegion};
+use device::DeviceRegion;
 use geometry::Rect;
 use std::io;
 
@@ -10,16 +10,16 @@ fn print_number(rt: &impl Print, n: u32) -> io::Result<()> {
 }
 
 // A region by its numbers, or the word nothing.
-fn print_converted(rt: &impl Print, name: &[u8], answer: Converted) -> io::Result<()> {
+fn print_converted(rt: &impl Print, name: &[u8], answer: Option<DeviceRegion>) -> io::Result<()> {
     rt.write_all(name)?;
     match answer {
-        Converted::Region(r) => {
+        Some(r) => {
             print_number(rt, r.x)?;
             print_number(rt, r.y)?;
             print_number(rt, r.width)?;
             print_number(rt, r.height)?;
         }
-        Converted::Nothing => {
+        None => {
             rt.write_all(b" nothing")?;
         }
     }

@@ -4,3 +4,4 @@ pub mod Wholes
 pub mod Nexts
 pub mod Values
 pub mod Tests
+pub mod LibraryNext

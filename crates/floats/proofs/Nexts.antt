@@ -1,9 +1,8 @@
 -- N3: the next lower value is lower, and no value lies between. Assumes nothing.
-use Rattle.std.proofs.Common.{◌≡◌, ℕ, zero, suc, ◌+◌, ◌-◌, ◌*◌, ◌^◌, ◌<◌, ◌≤◌, Bool, true, false, T, ℤ, sym, refl, ap, subst, ⊎_elim, true≢false, mul-pos, zero-mul, arith}
+use Rattle.std.proofs.Common.{◌≡◌, ℕ, zero, suc, ◌+◌, ◌-◌, ◌*◌, ◌^◌, ◌<◌, ◌≤◌, Bool, true, false, T, ℤ, sym, refl, ap, subst, ⊎_elim, mul-pos, zero-mul, arith}
 use lib.Ieee.{Float, nan, inf, fin, binary64, neg, fits, of_bits, to_bits}
 use lib.Ieee.Fits.{and_r}
 use lib.Ieee.Bits.{of_bits-to_bits}
-use lib.Ieee.Scale.{finite}
 use Rattle.lists.proofs.Picks.{le_or_lt}
 use Rattle.ieee.proofs.Rank.{middle, scale, scale_pos, rank, ordered, ordered_fits, middle_pos}
 use Rattle.ieee.proofs.Patterns.{infinity_bits, infinity_rank, zero_rank, bits_lt, bits_neg, bits_ordered, neg_rank, neg_bits, pattern, pattern_before, pattern_after}
@@ -73,11 +72,11 @@ unfolding rank
 zero_at true e = omega (arith, zero-mul (scale e))
 zero_at false e = omega (arith, zero-mul (scale e))
 
-positive_at : (m : ℕ) (e : ℤ) → middle < rank (fin false (suc m) e)
+pub positive_at : (m : ℕ) (e : ℤ) → middle < rank (fin false (suc m) e)
 unfolding rank
 positive_at m e = let k : 0 < suc m * scale e = mul-pos (omega arith) (scale_pos e) in omega arith
 
-negative_at : (m : ℕ) (e : ℤ) → rank (fin true (suc m) e) < middle
+pub negative_at : (m : ℕ) (e : ℤ) → rank (fin true (suc m) e) < middle
 unfolding rank
 negative_at m e = let k : 0 < suc m * scale e = mul-pos (omega arith) (scale_pos e) in omega (arith, middle_pos)
 
@@ -119,15 +118,7 @@ below_zero (fin s zero e) t f h = never (omega (arith, zero_at s e))
 below_zero (fin true (suc m) e) t f h = refl
 below_zero (fin false (suc m) e) t f h = never (omega (arith, positive_at m e))
 
--- minus infinity and a NaN have none
-pub none_below : (y : Float) → finite y ≡ false → (y ≡ inf false → ⊥) → next_down y ≡ y
-unfolding next_down
-none_below nan e f = refl
-none_below (inf true) e f = refl
-none_below (inf false) e f = absurd (f refl)
-none_below (fin s m d) e f = absurd (true≢false e)
-
--- every other value has one
+-- every value but minus infinity and a NaN has one
 pub next_down_lem : (y : Float) → T (ordered y) → 0 < rank y → Next y (next_down y)
 next_down_lem y t h = ⊎_elim
     (λ (l : rank y ≤ middle). ⊎_elim

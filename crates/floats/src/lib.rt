@@ -4,58 +4,39 @@
 #![tactic(auto)]
 
 ghost use Rattle.std.specs.Prelude.{◌≡◌, ◌-◌, ◌^◌, min};
-ghost use Rattle.std.specs.Float.Ieee.Scale.{finite};
 ghost use Rattle.floats.specs.Order as Order;
 ghost use Rattle.floats.specs.Whole as Whole;
 ghost use Rattle.floats.specs.Next as Next;
 
-// The larger of two numbers, and the first where they are equal.
+// The larger of two numbers, and the first where they are equal. f64's own `max` takes the other where one is a NaN, and of 0 and -0
+// may take either: the edges that are told here are fixed to the bit.
+#[tactic(auto, unfolding(crate::specs::Order::larger))]
 pub fn larger(a: f64, b: f64) -> f64
     ensures { result ≡ Order.larger a b }
 {
     if a < b { b } else { a }
 }
 
-// The smaller of two numbers, and the first where they are equal.
+// The smaller of two numbers, and the first where they are equal; f64's own `min` differs as `max` does.
+#[tactic(auto, unfolding(crate::specs::Order::smaller))]
 pub fn smaller(a: f64, b: f64) -> f64
     ensures { result ≡ Order.smaller a b }
 {
     if b < a { b } else { a }
 }
 
-// Whether x is neither infinite nor a NaN.
-pub fn is_finite(x: f64) -> bool
-    ensures { result ≡ finite x }
-{
-    let top = 1.0 / 0.0;
-    if -top < x { x < top } else { false }
-}
-
 // x rounded down, not below 0 and not above the largest u64: Rust's `x as u64`.
 pub fn floor_u64(x: f64) -> u64
     ensures { result ≡ min (Whole.floor x) (2 ^ 64 - 1) }
 {
-    if x > 0.0 {
-        if x < 18446744073709551616.0 {
-            std::num::truncating_f64_to_u64(x)
-        } else {
-            u64::MAX
-        }
-    } else {
-        0
-    }
+    std::num::saturating_f64_to_u64(x)
 }
 
 // x rounded down, not below 0 and not above limit.
 pub fn floor_to(x: f64, limit: u32) -> u32
     ensures { result ≡ min (Whole.floor x) limit }
 {
-    let below = floor_u64(x);
-    if below < limit as u64 {
-        below as u32
-    } else {
-        limit
-    }
+    floor_u64(x).min(limit as u64) as u32
 }
 
 // x rounded up, not below 0 and not above limit.
@@ -64,7 +45,7 @@ pub fn ceil_to(x: f64, limit: u32) -> u32
 {
     let below = floor_to(x, limit);
     if below < limit {
-        let back = std::num::nearest_u64_to_f64(below as u64);
+        let back = f64::from(below);
         if back < x { below + 1 } else { below }
     } else {
         limit
@@ -75,14 +56,5 @@ pub fn ceil_to(x: f64, limit: u32) -> u32
 pub fn next_down(y: f64) -> f64
     ensures { result ≡ Next.next_down y }
 {
-    if y == 0.0 {
-        return f64::from_bits(0x8000_0000_0000_0001);
-    }
-    if y > 0.0 {
-        return f64::from_bits(f64::to_bits(y) - 1);
-    }
-    if is_finite(y) {
-        return f64::from_bits(f64::to_bits(y) + 1);
-    }
-    y
+    y.next_down()
 }

@@ -1,11 +1,12 @@
-// Clearing and copying of slices. Where a function is there for several types of element, its name ends in
-// the type, and its contract is the same for each.
+// Copying to the front of a slice.
 #![tactic(auto)]
 
-mod f64s;
-mod u32s;
-mod u64s;
+ghost use Rattle.std.specs.Prelude.{◌≡◌, ◌++◌, ◌≤◌, length, take, drop};
 
-pub use f64s::{clear_f64, copy_f64};
-pub use u32s::{clear_u32, copy_u32};
-pub use u64s::{clear_u64, copy_u64};
+// Copies the first n elements of src to the front of dst, and leaves the rest of dst as it is.
+pub fn copy_front<T: Copy>(src: &[T], n: usize, dst: &mut [T])
+    requires { (n ≤ length src.now) × (n ≤ length dst.old) }
+    ensures { dst.new ≡ take n src.now ++ drop n dst.old }
+{
+    dst[..n].copy_from_slice(&src[..n]);
+}

@@ -1,4 +1,5 @@
 -- L4 and demand 3: whatever the order of the regions, panel B shows what panel A shows. Assumes nothing.
+use Rattle.std.proofs.Common.{Some}
 use mathlib.Core.Path.{◌≡◌, refl, sym, ◌∙◌, subst}
 use mathlib.Core.Bool.{Bool, true, false, ◌&&◌}
 use mathlib.Core.Logic.{◌⊎◌, inl, inr, ⊎_elim}
@@ -14,7 +15,6 @@ use Rattle.lists.specs.Members.{All, Any, In}
 use Rattle.lists.proofs.Members.{all_map, all_of, any_find, in_all, pairs_with}
 use Rattle.lists.proofs.Bools.{holds, not_both, and_true}
 use Rattle.device.specs.declared.DeviceRegion.{DeviceRegion}
-use Rattle.device.specs.declared.Converted.TheVariants.{Region}
 use Rattle.device.specs.Region.{has}
 use Rattle.commands.specs.Bounds.{Command, bounds}
 use Rattle.rows.specs.Rows.{row_count}
@@ -33,11 +33,11 @@ use Rattle.panels.specs.Panels.{Planner, Frame, Apart, InBand, is_accepted, Used
 use Rattle.panels.proofs.Plans.{boxes_since, GoodLast, Call, Plans}
 
 -- ---- a region's pixels, as a test and as a record
-test_covers : (r : DeviceRegion) (p q : ℕ) → has (Region r) p q ≡ true → Covers p q r
+test_covers : (r : DeviceRegion) (p q : ℕ) → has (Some r) p q ≡ true → Covers p q r
 unfolding Any
-test_covers r p q e = ⊎_elim (λ c. c) (λ n. absurd n) (has_covers (Region r) p q [] e)
+test_covers r p q e = ⊎_elim (λ c. c) (λ n. absurd n) (has_covers (Some r) p q [] e)
 
-covers_test : (r : DeviceRegion) (p q : ℕ) → Covers p q r → has (Region r) p q ≡ true
+covers_test : (r : DeviceRegion) (p q : ℕ) → Covers p q r → has (Some r) p q ≡ true
 covers_test r p q c = and_true (leb r.x p && ltb p (r.x + r.width)) (leb r.y q && ltb q (r.y + r.height))
     (and_true (leb r.x p) (ltb p (r.x + r.width)) (le-leb r.x p c.from_left) (lt-ltb p (r.x + r.width) c.to_right))
     (and_true (leb r.y q) (ltb q (r.y + r.height)) (le-leb r.y q c.from_top) (lt-ltb q (r.y + r.height) c.to_bottom))
@@ -52,20 +52,20 @@ module _ (w h b : ℕ) (P : Planner) (good : P.Strip → Type 0) (L : Plans w h 
 
   -- L4: F is what each region makes of the pixel that has it. Then the pixel is F, or no region has it and it is as before.
   any_order : (cs : List Command) (words : List ℕ) (px : Pixel w h) (F : C) (rs : List DeviceRegion) (panel : Pixel w h → C)
-      → All (λ r. has (Region r) px.p px.q ≡ true → region_shows cs words px r ≡ F) rs
-      → (paint_regions P w h b background paint absent cs words rs panel px ≡ F) ⊎ ((paint_regions P w h b background paint absent cs words rs panel px ≡ panel px) × All (λ r. has (Region r) px.p px.q ≡ false) rs)
+      → All (λ r. has (Some r) px.p px.q ≡ true → region_shows cs words px r ≡ F) rs
+      → (paint_regions P w h b background paint absent cs words rs panel px ≡ F) ⊎ ((paint_regions P w h b background paint absent cs words rs panel px ≡ panel px) × All (λ r. has (Some r) px.p px.q ≡ false) rs)
   unfolding paint_region paint_all All
   any_order cs words px F [] panel g = inr (refl, tt)
   any_order cs words px F (r ∷ rs) panel g = ⊎_elim
       (λ e. inl e)
-      (λ e. go (has (Region r) px.p px.q) refl e.0 e.1)
+      (λ e. go (has (Some r) px.p px.q) refl e.0 e.1)
       (any_order cs words px F rs (paint_region P w h b background paint absent cs words r panel) g.1)
     where
       after_all : C
       after_all = paint_regions P w h b background paint absent cs words rs (paint_region P w h b background paint absent cs words r panel) px
 
-      go : (t : Bool) → has (Region r) px.p px.q ≡ t → after_all ≡ pick t (region_shows cs words px r) (panel px) → All (λ s. has (Region s) px.p px.q ≡ false) rs
-          → (after_all ≡ F) ⊎ ((after_all ≡ panel px) × ((has (Region r) px.p px.q ≡ false) × All (λ s. has (Region s) px.p px.q ≡ false) rs))
+      go : (t : Bool) → has (Some r) px.p px.q ≡ t → after_all ≡ pick t (region_shows cs words px r) (panel px) → All (λ s. has (Some s) px.p px.q ≡ false) rs
+          → (after_all ≡ F) ⊎ ((after_all ≡ panel px) × ((has (Some r) px.p px.q ≡ false) × All (λ s. has (Some s) px.p px.q ≡ false) rs))
       go true t e n = inl (e ∙ g.0 t)
       go false t e n = inr (e, (t, n))
 
@@ -100,9 +100,9 @@ module _ (w h b : ℕ) (P : Planner) (good : P.Strip → Type 0) (L : Plans w h 
         }
 
     -- L3 for each region that panel B paints
-    each_shows : (px : Pixel w h) → All M ns → (order : List DeviceRegion) → All (λ r. In r rs) order → All (λ r. has (Region r) px.p px.q ≡ true → region_shows ns words px r ≡ shown ns px) order
+    each_shows : (px : Pixel w h) → All M ns → (order : List DeviceRegion) → All (λ r. In r rs) order → All (λ r. has (Some r) px.p px.q ≡ true → region_shows ns words px r ≡ shown ns px) order
     each_shows px m order i =
-        all_map (λ r. In r rs) (λ r. has (Region r) px.p px.q ≡ true → region_shows ns words px r ≡ shown ns px)
+        all_map (λ r. In r rs) (λ r. has (Some r) px.p px.q ≡ true → region_shows ns words px r ≡ shown ns px)
         (λ r j e. candidates_paint sizes R px ns m (L.sound last f.strip f.space call) words index.0 index.1 r (in_all (Placed w h b) r rs j regions_placed.placed) (test_covers r px.p px.q e) absent background)
         order i
 
@@ -124,11 +124,11 @@ module _ (w h b : ℕ) (P : Planner) (good : P.Strip → Type 0) (L : Plans w h 
       (each_shows (some old) f call px m f.order ord.only)))
     where
       -- no region in the order has the pixel, so no region has it
-      uncovered : All (λ r. has (Region r) px.p px.q ≡ false) f.order → Any (Covers px.p px.q) (schedule w h b (diff_dirty (P.commands old) (P.commands f.strip))) → ⊥
+      uncovered : All (λ r. has (Some r) px.p px.q ≡ false) f.order → Any (Covers px.p px.q) (schedule w h b (diff_dirty (P.commands old) (P.commands f.strip))) → ⊥
       uncovered n a =
           let z = any_find (Covers px.p px.q) (P.regions (some old) f.strip f.space) (subst (Any (Covers px.p px.q)) (sym (L.regions (some old) f.strip f.space call)) a) in
           let i = in_all (λ r. In r f.order) z.0 (P.regions (some old) f.strip f.space) z.1 ord.each in
-          not_both (has (Region z.0) px.p px.q) (in_all (λ r. has (Region r) px.p px.q ≡ false) z.0 f.order i n) (holds _ (covers_test z.0 px.p px.q z.2))
+          not_both (has (Some z.0) px.p px.q) (in_all (λ r. has (Some r) px.p px.q ≡ false) z.0 f.order i n) (holds _ (covers_test z.0 px.p px.q z.2))
 
   panels_from : (s : State P w h b background paint absent) (fs : List (Frame P)) → SamePanels P w h b background paint absent s → GoodLast good s.last → Shown s.last s.panel_a → ((c : Command) → Used P s.last fs c → M c) → Orders P s.last fs → Agree P w h b background paint absent s fs
   unfolding step

@@ -1,11 +1,10 @@
 -- The two panels of document 01: frames, what each panel shows after them, and what is claimed of both. Painters and their rules are those of
 -- crate `painting`, `candidates` and its refusals those of crate `candidates`.
-use Rattle.std.specs.Prelude.{◌≡◌, Bool, true, List, [], ◌∷◌, ℕ, ◌+◌, ◌-◌, ◌/◌, get_or}
+use Rattle.std.specs.Prelude.{◌≡◌, Bool, true, List, [], ◌∷◌, ℕ, ◌+◌, ◌-◌, ◌/◌, get_or, Some}
 use Rattle.std.proofs.Math.Option.{Option, none, some}
 use Rattle.lists.specs.Pick.{pick}
 use Rattle.lists.specs.Members.{All, Pairs, In}
 use Rattle.device.specs.declared.DeviceRegion.{DeviceRegion}
-use Rattle.device.specs.declared.Converted.TheVariants.{Region}
 use Rattle.device.specs.Region.{has}
 use Rattle.commands.specs.Bounds.{Command}
 use Rattle.schedule_laws.specs.Placed.{Covers}
@@ -83,7 +82,7 @@ module _ (P : Planner) where
     -- commands at the places listed (from 0) paint them in order"
     unfoldable pub paint_region : List Command → List ℕ → DeviceRegion → Panel → Panel
     paint_region cs words r panel px =
-        pick (has (Region r) px.p px.q)
+        pick (has (Some r) px.p px.q)
         (paint_at (λ c. paint c px) (λ i. get_or cs i absent) (candidates w h b r.y words) background)
         (panel px)
 

@@ -38,9 +38,9 @@ fn publish(
     match plan {
         Ok(accepted) => {
             let region_count = accepted.work.regions_transferred as usize;
-            lists::copy_f64(draft_rects, 4 * accepted.rects, rects);
-            lists::copy_u32(draft_regions, 4 * region_count, regions);
-            lists::copy_u32(draft_words, accepted.words, words);
+            lists::copy_front(draft_rects, 4 * accepted.rects, rects);
+            lists::copy_front(draft_regions, 4 * region_count, regions);
+            lists::copy_front(draft_words, accepted.words, words);
         }
         Err(_) => {}
     }
@@ -55,11 +55,11 @@ fn clear_lists(
 )
     ensures { (ZeroFloats boxes.old boxes.new) × (Zeros below.old below.new) × (Zeros items.old items.new) × (ZeroFloats item_boxes.old item_boxes.new) × (Zeros glyph_items.old glyph_items.new) }
 {
-    lists::clear_f64(boxes);
-    lists::clear_u64(below);
-    lists::clear_u64(items);
-    lists::clear_f64(item_boxes);
-    lists::clear_u64(glyph_items);
+    boxes.fill(0.0);
+    below.fill(0);
+    items.fill(0);
+    item_boxes.fill(0.0);
+    glyph_items.fill(0);
 }
 
 fn clear_draft(
@@ -71,11 +71,11 @@ fn clear_draft(
 )
     ensures { (ZeroFloats rects.old rects.new) × (Zeros work.old work.new) × (Zeros spare.old spare.new) × (Zeros regions.old regions.new) × (Zeros words.old words.new) }
 {
-    lists::clear_f64(rects);
-    lists::clear_u64(work);
-    lists::clear_u64(spare);
-    lists::clear_u32(regions);
-    lists::clear_u32(words);
+    rects.fill(0.0);
+    work.fill(0);
+    spare.fill(0);
+    regions.fill(0);
+    words.fill(0);
 }
 
 // A first frame: header and one strip. Any bytes and any lent space will do.

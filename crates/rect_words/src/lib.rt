@@ -20,6 +20,7 @@ pub fn rect_at(words: &[f64], i: usize) -> Rect
 }
 
 // Stores a box from i on.
+#[tactic(auto, unfolding(crate::specs::Words::put_rect))]
 pub fn put_rect(words: &mut [f64], i: usize, rect: Rect)
     requires { i + 4 ≤ length words.old }
     ensures { words.new ≡ Words.put_rect words.old i rect }

@@ -1,15 +1,14 @@
 -- N4: a row of pixels lies in a band row; the rows of a box that meets a pixel hold the pixel's row. Assumes nothing.
 use mathlib.Core.Path.{◌≡◌, ap, ◌∙◌}
 use mathlib.Core.Bool.{true, false}
-use mathlib.Core.Logic.{⊎_elim}
-use Prim.Native.Nat.{ℕ, ◌+◌, ◌-◌, ◌*◌, ◌/◌, ◌^◌, ◌≤◌, ◌<◌, min}
-use native.Mathlib.Nat.{mul-le-mul_right, div-div-eq-div-mul, add-div_right, le-div_iff_mul-le, div-zero}
+use Prim.Native.Nat.{ℕ, suc, ◌+◌, ◌-◌, ◌*◌, ◌/◌, ◌%◌, ◌^◌, ◌≤◌, ◌<◌, min}
+use native.Mathlib.Nat.{mul-le-mul_right, div-div-eq-div-mul, add-div_right, le-div_iff_mul-le, div-lt_iff_lt-mul, suc-mul}
+use Rattle.std.proofs.lemmas.Grind.{div_ceil_times}
 use native.Mathlib.Omega.{arith}
 use lib.IntN.{ℤ}
 use lib.Dec.{T}
 use lib.Ieee.{Float, fin, up, down, lt}
 use lib.Ieee.Nearest.{div_mono}
-use Rattle.lists.proofs.Picks.{le_or_lt}
 use Rattle.ieee.proofs.Rank.{ordered, lt_ranks, not_lt_ranks, rank_whole, whole_ordered}
 use Rattle.ieee.proofs.Values.{Same}
 use Rattle.floats.specs.Whole.{whole, floor}
@@ -66,18 +65,11 @@ row_below h b q B Q = let l = last_row h b (omega arith) B in let m = div_le q (
 pub row_same : (x y : Float) (b rows : ℕ) → T (ordered x) → T (ordered y) → Same x y → row_of b rows x ≡ row_of b rows y
 row_same x y b rows s t p = ap (λ (z : ℕ). min (z / b) (rows - 1)) (floor_same x y s t p)
 
--- ---- what the code works out
--- the cast to u64 cuts off only heights far below the last row
-pub row_cut : (f b rows : ℕ) → (b ≡ 0 → ⊥) → b < 2 ^ 32 → rows < 2 ^ 32 → min (min f (2 ^ 64 - 1) / b) (rows - 1) ≡ min (f / b) (rows - 1)
-row_cut f b rows nz b32 r32 = let B : 0 < b = omega arith in ⊎_elim
-    (λ (h : f ≤ 2 ^ 64 - 1). let e : min f (2 ^ 64 - 1) ≡ f = omega arith in ap (λ (z : ℕ). min (z / b) (rows - 1)) e)
-    (λ (h : 2 ^ 64 - 1 < f).
-    let e : min f (2 ^ 64 - 1) ≡ 2 ^ 64 - 1 = omega arith in
-    let k : 2 ^ 32 ≤ (2 ^ 64 - 1) / b = (le-div_iff_mul-le B).1 (omega arith) in
-    let l = div_le (2 ^ 64 - 1) f b B (omega arith) in
-    let m : min f (2 ^ 64 - 1) / b ≡ (2 ^ 64 - 1) / b = ap (λ (z : ℕ). z / b) e in
-    omega arith)
-    (le_or_lt f (2 ^ 64 - 1))
-
-pub no_band : (y : Float) (rows : ℕ) → 0 ≡ row_of 0 rows y
-no_band y rows = omega (arith, div-zero (floor y))
+-- the code divides and rounds up
+pub count_rounded_up : (h b : ℕ) → 0 < b → h / b + min 1 (h % b) ≡ row_count h b
+count_rounded_up h b p =
+    let t = h / b + min 1 (h % b) in
+    let k = div_ceil_times h b p in
+    let low : t ≤ row_count h b = (le-div_iff_mul-le {k = b} {x = t} {y = h + (b - 1)} p).1 (omega (arith, k.1)) in
+    let high : row_count h b < suc t = (div-lt_iff_lt-mul p).1 (omega (arith, suc-mul t b, k.0)) in
+    omega arith

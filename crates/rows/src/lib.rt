@@ -9,15 +9,12 @@ ghost use Rattle.rows.specs.Rows as Rows;
 pub fn row_of(y: f64, band_height: u32, row_count: u32) -> u32
     ensures { result ≡ Rows.row_of band_height row_count y }
 {
-    if band_height == 0 {
-        return 0;
-    }
-    if row_count == 0 {
+    if band_height == 0 || row_count == 0 {
         return 0;
     }
     let row = floats::floor_u64(y) / (band_height as u64);
     let last = row_count - 1;
-    if row < last as u64 { row as u32 } else { last }
+    row.min(last as u64) as u32
 }
 
 // The last band row that a box with the high edge y has: the row of the next lower height.

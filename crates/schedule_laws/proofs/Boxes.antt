@@ -1,4 +1,5 @@
 -- The laws of a schedule for lists of boxes. Assumes nothing.
+use Rattle.std.proofs.Common.{Option, Some, None}
 use mathlib.Core.Path.{◌≡◌, refl, sym, ap, ◌∙◌, subst}
 use mathlib.Core.Logic.{inl, inr, ⊎_elim}
 use mathlib.Core.Bool.{true, ◌&&◌}
@@ -20,8 +21,6 @@ use Rattle.geometry.specs.Pixels.{meets}
 use Rattle.geometry.proofs.Edges.{Ordered}
 use Rattle.geometry.proofs.Values.{edges_same}
 use Rattle.device.specs.declared.DeviceRegion.{DeviceRegion}
-use Rattle.device.specs.declared.Converted.{Converted}
-use Rattle.device.specs.declared.Converted.TheVariants.{Region, Nothing}
 use Rattle.device.specs.Region.{right, bottom, between, from_logical, has}
 use Rattle.device.proofs.Regions.{between_yes, has_meets, from_logical_same}
 use Rattle.bands.specs.Bands.{unless_nothing, regions_of}
@@ -38,21 +37,21 @@ use Rattle.schedule_laws.proofs.Own.{own}
 pub regions_on : (w h : ℕ) (rects : List Rect) → All (OnScreen w h) (regions_of w h rects)
 regions_on w h rects = all_regions (OnScreen w h) w h (λ r a b c d. record { some_width = a; some_height = b; across = c; down = d }) rects
 
-any_behind : (P : DeviceRegion → Type 0) (c : Converted) (l : List DeviceRegion) → Any P l → Any P (unless_nothing c l)
+any_behind : (P : DeviceRegion → Type 0) (c : Option DeviceRegion) (l : List DeviceRegion) → Any P l → Any P (unless_nothing c l)
 unfolding Any
-any_behind P (Region r) l h = inr h
-any_behind P Nothing l h = h
+any_behind P (Some r) l h = inr h
+any_behind P None l h = h
 
-pub has_covers : (c : Converted) (p q : ℕ) (l : List DeviceRegion) → has c p q ≡ true → Any (Covers p q) (unless_nothing c l)
+pub has_covers : (c : Option DeviceRegion) (p q : ℕ) (l : List DeviceRegion) → has c p q ≡ true → Any (Covers p q) (unless_nothing c l)
 unfolding Any
-has_covers (Region r) p q l e =
+has_covers (Some r) p q l e =
     let A = leb r.x p in
     let B = ltb p (right r) in
     let C = leb r.y q in
     let D = ltb q (bottom r) in
     let t = holds ((A && B) && (C && D)) e in
     inl (record { from_left = leb→le r.x p (and_l A B (and_l (A && B) (C && D) t)); to_right = ltb→lt p (right r) (and_r A B (and_l (A && B) (C && D) t)); from_top = leb→le r.y q (and_l C D (and_r (A && B) (C && D) t)); to_bottom = ltb→lt q (bottom r) (and_r C D (and_r (A && B) (C && D) t)) })
-has_covers Nothing p q l e = let z : ◌≡◌ {A = ℕ} 0 1 = cc in absurd (omega arith)
+has_covers None p q l e = let z : ◌≡◌ {A = ℕ} 0 1 = cc in absurd (omega arith)
 
 -- C1 of a list: a pixel of the screen that some box meets is covered by some region
 pub regions_cover : (w h p q : ℕ) → w ≤ 32768 → h ≤ 32768 → p < w → q < h → (rects : List Rect) → Any (λ r. Ordered r × (meets r p q ≡ true)) rects → Any (Covers p q) (regions_of w h rects)
@@ -63,7 +62,7 @@ regions_cover w h p q wh hh pw qh (r ∷ rects) a = ⊎_elim
     (λ x. any_behind (Covers p q) (from_logical r w h) (regions_of w h rects) (regions_cover w h p q wh hh pw qh rects x))
     a
 
-region_in : (w h : ℕ) (g : DeviceRegion) (rects : List Rect) → Any (λ r. Region g ≡ from_logical r w h) rects → In g (regions_of w h rects)
+region_in : (w h : ℕ) (g : DeviceRegion) (rects : List Rect) → Any (λ r. Some g ≡ from_logical r w h) rects → In g (regions_of w h rects)
 unfolding Any regions_of
 region_in w h g [] a = absurd a
 region_in w h g (r ∷ rects) a = ⊎_elim
@@ -77,9 +76,9 @@ unfolding All regions_of
 regions_in w h [] ss a = tt
 regions_in w h (r ∷ rs) ss a = go (from_logical r w h) a.0 (regions_in w h rs ss a.1)
   where
-    go : (c : Converted) → Any (λ s. c ≡ from_logical s w h) ss → All (λ g. In g (regions_of w h ss)) (regions_of w h rs) → All (λ g. In g (regions_of w h ss)) (unless_nothing c (regions_of w h rs))
-    go (Region g) x y = (region_in w h g ss x, y)
-    go Nothing x y = y
+    go : (c : Option DeviceRegion) → Any (λ s. c ≡ from_logical s w h) ss → All (λ g. In g (regions_of w h ss)) (regions_of w h rs) → All (λ g. In g (regions_of w h ss)) (unless_nothing c (regions_of w h rs))
+    go (Some g) x y = (region_in w h g ss x, y)
+    go None x y = y
 
 module _ {w h b : ℕ} (s : Sizes w h b) where
   -- S1: a pixel of the screen that some box meets is in some scheduled region

@@ -5,7 +5,7 @@ use Prim.Native.Nat.{ℕ}
 use Rattle.device.specs.declared.DeviceRegion.{DeviceRegion}
 use Rattle.device.specs.Region.{between, intersect, union}
 use Rattle.bands.specs.Bands.{cut_to, insert_by, sort_by, join_to, join, merge_overlapping}
-use Rattle.scheduler.specs.declared.Scheduled.TheVariants.{Regions, Full}
+use Rattle.std.proofs.Common.{Some, None}
 use Rattle.scheduler.specs.Schedule.{bands_to, schedule_of, pixels_of, words_of, answer_of}
 
 abbrev at : ℕ → ℕ → ℕ → ℕ → DeviceRegion
@@ -22,15 +22,15 @@ unfolding words_of
 words = refl
 
 -- eight words are room for two regions
-room : answer_of (at 0 0 8 12 ∷ at 20 15 1 1 ∷ []) 8 ≡ Regions 2 97
+room : answer_of (at 0 0 8 12 ∷ at 20 15 1 1 ∷ []) 8 ≡ Some (record { regions = 2; pixels = 97 })
 unfolding pixels_of
 room = refl
 
 -- seven are not
-no_room : answer_of (at 0 0 8 12 ∷ at 20 15 1 1 ∷ []) 7 ≡ Full
+no_room : answer_of (at 0 0 8 12 ∷ at 20 15 1 1 ∷ []) 7 ≡ None
 no_room = refl
 
 -- and no region needs none
-none : answer_of [] 0 ≡ Regions 0 0
+none : answer_of [] 0 ≡ Some (record { regions = 0; pixels = 0 })
 unfolding pixels_of
 none = refl

@@ -10,7 +10,8 @@ use lib.ListN.{length, take, drop}
 use lib.Seq.{take_at}
 use Rattle.lists.specs.Pick.{pick}
 use Rattle.device.specs.declared.DeviceRegion.{DeviceRegion}
-use Rattle.scheduler.specs.declared.Scheduled.TheVariants.{Regions, Full}
+use Rattle.std.proofs.Common.{Option, Some, None}
+use Rattle.scheduler.specs.declared.Totals.{Totals}
 use Rattle.scheduler.specs.Schedule.{pixels_of, words_of, Answers}
 use Rattle.scheduler.proofs.Writes.{words_length}
 
@@ -22,22 +23,23 @@ pub record Listed (l : List DeviceRegion) (before : List ℕ) (count pixels : �
   pub words_are : after ≡ words_of l ++ drop (4 * count) before
 
 module _ (l : List DeviceRegion) (before after : List ℕ) where
-  pub answered : (count pixels : ℕ) → Answers l before (Regions count pixels) after → Listed l before count pixels after
-  answered count pixels a = go (leb (length l) (length before / 4)) refl a.answer
+  pub answered : (t : Totals) → Answers l before (Some t) after → Listed l before t.regions t.pixels after
+  answered s a = go (leb (length l) (length before / 4)) refl a.answer
     where
-      go : (t : Bool) → leb (length l) (length before / 4) ≡ t → Regions count pixels ≡ pick t (Regions (length l) (pixels_of l)) Full → Listed l before count pixels after
+      go : (t : Bool) → leb (length l) (length before / 4) ≡ t → Some s ≡ pick t (Some (record { regions = length l; pixels = pixels_of l })) None → Listed l before s.regions s.pixels after
       go true e q =
           let h : length l ≤ length before / 4 = leb-true (length l) (length before / 4) e in
-          let n : count ≡ length l = cc in
-          let p : pixels ≡ pixels_of l = cc in
+          let same : s ≡ record { regions = length l; pixels = pixels_of l } = cc in
+          let n : s.regions ≡ length l = ap (λ z. z.regions) same in
+          let p : s.pixels ≡ pixels_of l = ap (λ z. z.pixels) same in
           record { fits = omega arith; count_is = n; pixels_are = p; words_are = rw n (a.words h) }
       go false e q = let z : ◌≡◌ {A = ℕ} 0 1 = cc in absurd (omega arith)
 
   -- there is no room
-  pub refused : Answers l before Full after → length before / 4 < length l
+  pub refused : Answers l before None after → length before / 4 < length l
   refused a = go (leb (length l) (length before / 4)) refl a.answer
     where
-      go : (t : Bool) → leb (length l) (length before / 4) ≡ t → Full ≡ pick t (Regions (length l) (pixels_of l)) Full → length before / 4 < length l
+      go : (t : Bool) → leb (length l) (length before / 4) ≡ t → ◌≡◌ {A = Option Totals} None (pick t (Some (record { regions = length l; pixels = pixels_of l })) None) → length before / 4 < length l
       go true e q = let z : ◌≡◌ {A = ℕ} 0 1 = cc in absurd (omega arith)
       go false e q = leb-false (length l) (length before / 4) e
 

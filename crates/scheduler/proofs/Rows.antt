@@ -16,7 +16,7 @@ use Rattle.rows.specs.Rows.{row_count}
 use Rattle.bands.specs.Bands.{band_regions}
 use Rattle.bands.specs.Keys.{from_yx}
 use Rattle.bands.proofs.Cuts.{band_few}
-use Rattle.scheduler.specs.declared.Scheduled.TheVariants.{Regions, Full}
+use Rattle.std.proofs.Common.{Some, None}
 use Rattle.scheduler.specs.Schedule.{Sizes, band_from, bands_to, schedule_of, pixels_of, words_of, Answers}
 use Rattle.scheduler.proofs.Writes.{words_append, words_length, pixels_append, pixels_most, put_behind}
 
@@ -51,27 +51,25 @@ module _ (w h b : ℕ) (l : List DeviceRegion) where
 
 -- ---- the loop
 
--- `bands` bands from the top are written to out: `count` regions with `pixels` pixels, and the next band starts at `row`.
-pub record Going (w h b : ℕ) (l : List DeviceRegion) (old out : List ℕ) (row count pixels : ℕ) : Type 0 where
+-- j bands from the top are written to out: `count` regions with `pixels` pixels.
+pub record Going (w h b : ℕ) (l : List DeviceRegion) (old out : List ℕ) (j count pixels : ℕ) : Type 0 where
   pub sizes : Sizes w h b
   pub all_fit : All Fit l
-  pub bands : ℕ
-  pub bands_most : bands ≤ row_count h b
-  pub row_is : row ≡ bands * b
+  pub bands_most : j ≤ row_count h b
   pub same_length : length out ≡ length old
   pub room : count ≤ length old / 4
-  pub count_is : count ≡ length (bands_to w h b l bands)
-  pub pixels_are : pixels ≡ pixels_of (bands_to w h b l bands)
-  pub pixels_few : pixels ≤ 140737488355328 * bands
-  pub words_are : out ≡ words_of (bands_to w h b l bands) ++ drop (4 * count) old
+  pub count_is : count ≡ length (bands_to w h b l j)
+  pub pixels_are : pixels ≡ pixels_of (bands_to w h b l j)
+  pub pixels_few : pixels ≤ 140737488355328 * j
+  pub words_are : out ≡ words_of (bands_to w h b l j) ++ drop (4 * count) old
 
--- The m regions of the band that starts at `row`, in front of `work`.
-pub record Banded (w h b : ℕ) (l : List DeviceRegion) (row : ℕ) (work : List ℕ) (m : ℕ) : Type 0 where
-  pub on : row < h
+-- The m regions of band j, in front of `work`.
+pub record Banded (w h b : ℕ) (l : List DeviceRegion) (j : ℕ) (work : List ℕ) (m : ℕ) : Type 0 where
+  pub on : j < row_count h b
   pub source : m ≤ length work
-  pub regions : map from_yx (take m work) ≡ band_regions (band_from w h b row) l
+  pub regions : map from_yx (take m work) ≡ band_regions (band_from w h b (j * b)) l
 
-pub banded : {w h b row m : ℕ} {l : List DeviceRegion} {work : List ℕ} → row < h → m ≤ length work → (band : DeviceRegion) → band ≡ band_from w h b row → map from_yx (take m work) ≡ band_regions band l → Banded w h b l row work m
+pub banded : {w h b j m : ℕ} {l : List DeviceRegion} {work : List ℕ} → j < row_count h b → m ≤ length work → (band : DeviceRegion) → band ≡ band_from w h b (j * b) → map from_yx (take m work) ≡ band_regions band l → Banded w h b l j work m
 banded {l = l} g k band e r = record { on = g; source = k; regions = r ∙ ap (λ t. band_regions t l) e }
 
 pub going_start : (w h b : ℕ) (l : List DeviceRegion) (old : List ℕ) → Sizes w h b → All Fit l → Going w h b l old old 0 0 0
@@ -79,9 +77,7 @@ unfolding bands_to words_of pixels_of
 going_start w h b l old s f = record {
   sizes = s;
   all_fit = f;
-  bands = 0;
   bands_most = omega arith;
-  row_is = omega arith;
   same_length = refl;
   room = omega arith;
   count_is = refl;
@@ -90,73 +86,69 @@ going_start w h b l old s f = record {
   words_are = refl;
 }
 
-module _ {w h b : ℕ} {l : List DeviceRegion} {old out : List ℕ} {row count pixels : ℕ} (g : Going w h b l old out row count pixels) where
-  -- the next band is within 16 bits
-  pub band_fits : row < h → (band : DeviceRegion) → band ≡ band_from w h b row → Fit band
-  band_fits on band e = subst Fit (sym e) (record { wide = omega (arith, g.sizes.width_most); high = omega (arith, g.sizes.height_most) })
+module _ {w h b : ℕ} {l : List DeviceRegion} {old out : List ℕ} {j count pixels : ℕ} (g : Going w h b l old out j count pixels) where
+  -- the next band starts on the screen
+  pub band_on : j < row_count h b → j * b < h
+  band_on = row_of_band h b j g.sizes.some_band
+
+  -- and is within 16 bits
+  pub band_fits : j < row_count h b → (band : DeviceRegion) → band ≡ band_from w h b (j * b) → Fit band
+  band_fits on band e = subst Fit (sym e) (record { wide = omega (arith, g.sizes.width_most); high = omega (arith, g.sizes.height_most, band_on on) })
 
   -- there are at most 65,535 bands, so their pixels are below 2 ^ 63
   pub pixels_low : pixels ≤ 9223231299366420480
   pixels_low = omega (arith, g.pixels_few, g.bands_most, div-le_self (h + (b - 1)) b, g.sizes.height_most, g.sizes.band_most)
 
-  module _ {work : List ℕ} {m : ℕ} (n : Banded w h b l row work m) where
-    is_band : map from_yx (take m work) ≡ band_regions (band_from w h b (g.bands * b)) l
-    is_band = n.regions ∙ ap (λ t. band_regions (band_from w h b t) l) g.row_is
-
-    m_is : m ≡ length (band_regions (band_from w h b (g.bands * b)) l)
-    m_is = sym (length-map (take m work) from_yx ∙ length-take-le m work n.source) ∙ ap length is_band
+  module _ {work : List ℕ} {m : ℕ} (n : Banded w h b l j work m) where
+    m_is : m ≡ length (band_regions (band_from w h b (j * b)) l)
+    m_is = sym (length-map (take m work) from_yx ∙ length-take-le m work n.source) ∙ ap length n.regions
 
     -- a band has no more regions than the screen has columns
     pub m_few : m ≤ 32768
-    m_few = omega (arith, m_is, band_few (band_from w h b (g.bands * b)) l g.all_fit, g.sizes.width_most)
+    m_few = omega (arith, m_is, band_few (band_from w h b (j * b)) l g.all_fit, g.sizes.width_most)
 
     -- nor more than 2 ^ 47 pixels
     pub p_few : (p : ℕ) → p ≡ pixels_of (map from_yx (take m work)) → p ≤ 140737488355328
     p_few p e = omega (arith, e, pixels_most (take m work), length-take-le m work n.source, m_few)
 
-    one_more : bands_to w h b l (g.bands + 1) ≡ bands_to w h b l g.bands ++ map from_yx (take m work)
-    one_more = bands_next w h b l g.bands ∙ ap (λ t. bands_to w h b l g.bands ++ t) (sym is_band)
+    one_more : bands_to w h b l (j + 1) ≡ bands_to w h b l j ++ map from_yx (take m work)
+    one_more = bands_next w h b l j ∙ ap (λ t. bands_to w h b l j ++ t) (sym n.regions)
 
-    count_more : count + m ≡ length (bands_to w h b l (g.bands + 1))
-    count_more = omega (arith, g.count_is, ap length (bands_next w h b l g.bands), length-append (bands_to w h b l g.bands) (band_regions (band_from w h b (g.bands * b)) l), m_is)
-
-    one_of : g.bands < row_count h b
-    one_of = band_of_row h b g.bands g.sizes.some_band (omega (arith, g.row_is, n.on))
+    count_more : count + m ≡ length (bands_to w h b l (j + 1))
+    count_more = omega (arith, g.count_is, ap length (bands_next w h b l j), length-append (bands_to w h b l j) (band_regions (band_from w h b (j * b)) l), m_is)
 
     -- they do not fit
-    pub going_full : length old / 4 - count < m → (after : List ℕ) → Answers (schedule_of w h b l) old Full after
+    pub going_full : length old / 4 - count < m → (after : List ℕ) → Answers (schedule_of w h b l) old None after
     going_full over after =
-        let k : length (bands_to w h b l (g.bands + 1)) ≤ length (schedule_of w h b l) = bands_grow w h b l (g.bands + 1) (row_count h b) (omega (arith, one_of)) in
+        let k : length (bands_to w h b l (j + 1)) ≤ length (schedule_of w h b l) = bands_grow w h b l (j + 1) (row_count h b) (omega (arith, n.on)) in
         let big : length old / 4 < length (schedule_of w h b l) = omega (arith, g.room, count_more) in
         record { answer = sym (simp (lt-leb (length (schedule_of w h b l)) (length old / 4) big)); words = λ z. absurd (omega arith) }
 
     -- they fit, and are written
-    pub going_next : m ≤ length old / 4 - count → (p : ℕ) → p ≡ pixels_of (map from_yx (take m work)) → (next : List ℕ) → length next ≡ length out → next ≡ take (4 * count) out ++ words_of (map from_yx (take m work)) ++ drop (4 * (count + m)) out → Going w h b l old next (row + b) (count + m) (pixels + p)
+    pub going_next : m ≤ length old / 4 - count → (p : ℕ) → p ≡ pixels_of (map from_yx (take m work)) → (next : List ℕ) → length next ≡ length out → next ≡ take (4 * count) out ++ words_of (map from_yx (take m work)) ++ drop (4 * (count + m)) out → Going w h b l old next (j + 1) (count + m) (pixels + p)
     going_next fits p ep next len e =
         let z : 4 * (count + m) ≡ 4 * count + 4 * m = omega arith in
         record {
           sizes = g.sizes;
           all_fit = g.all_fit;
-          bands = g.bands + 1;
-          bands_most = omega (arith, one_of);
-          row_is = omega (arith, g.row_is, next_row b g.bands);
+          bands_most = omega (arith, n.on);
           same_length = len ∙ g.same_length;
           room = omega (arith, g.room);
           count_is = count_more;
-          pixels_are = omega (arith, g.pixels_are, ep, ap pixels_of one_more, pixels_append (bands_to w h b l g.bands) (map from_yx (take m work)));
+          pixels_are = omega (arith, g.pixels_are, ep, ap pixels_of one_more, pixels_append (bands_to w h b l j) (map from_yx (take m work)));
           pixels_few = omega (arith, g.pixels_few, p_few p ep);
-          words_are = e ∙ rw z (put_behind (words_of (bands_to w h b l g.bands)) old (words_of (map from_yx (take m work))) out (4 * count) (4 * m) (words_length (bands_to w h b l g.bands) ∙ omega (arith, g.count_is)) g.words_are
-              ∙ ap (λ t. t ++ drop (4 * count + 4 * m) old) (sym (ap words_of one_more ∙ words_append (bands_to w h b l g.bands) (map from_yx (take m work)))));
+          words_are = e ∙ rw z (put_behind (words_of (bands_to w h b l j)) old (words_of (map from_yx (take m work))) out (4 * count) (4 * m) (words_length (bands_to w h b l j) ∙ omega (arith, g.count_is)) g.words_are
+              ∙ ap (λ t. t ++ drop (4 * count + 4 * m) old) (sym (ap words_of one_more ∙ words_append (bands_to w h b l j) (map from_yx (take m work)))));
         }
 
   -- past the last band
-  pub going_end : h ≤ row → Answers (schedule_of w h b l) old (Regions count pixels) out
+  pub going_end : row_count h b ≤ j → Answers (schedule_of w h b l) old (Some (record { regions = count; pixels = pixels })) out
   going_end past =
-      let j : g.bands ≡ row_count h b = by_le (row_count h b) g.bands (λ q. omega (arith, g.bands_most)) (λ q. absurd (omega (arith, row_of_band h b g.bands g.sizes.some_band q, g.row_is))) in
-      let n : count ≡ length (schedule_of w h b l) = g.count_is ∙ ap (λ t. length (bands_to w h b l t)) j in
-      let x : pixels ≡ pixels_of (schedule_of w h b l) = g.pixels_are ∙ ap (λ t. pixels_of (bands_to w h b l t)) j in
+      let k : j ≡ row_count h b = omega (arith, g.bands_most) in
+      let n : count ≡ length (schedule_of w h b l) = g.count_is ∙ ap (λ t. length (bands_to w h b l t)) k in
+      let x : pixels ≡ pixels_of (schedule_of w h b l) = g.pixels_are ∙ ap (λ t. pixels_of (bands_to w h b l t)) k in
       let small : length (schedule_of w h b l) ≤ length old / 4 = omega (arith, g.room) in
       record {
-        answer = rw (le-leb (length (schedule_of w h b l)) (length old / 4) small) (λ i. Regions (n i) (x i));
-        words = λ z. rw (← n) (g.words_are ∙ ap (λ t. words_of (bands_to w h b l t) ++ drop (4 * count) old) j);
+        answer = rw (le-leb (length (schedule_of w h b l)) (length old / 4) small) (λ i. Some (record { regions = n i; pixels = x i }));
+        words = λ z. rw (← n) (g.words_are ∙ ap (λ t. words_of (bands_to w h b l t) ++ drop (4 * count) old) k);
       }

@@ -1,6 +1,6 @@
 -- A schedule, as document 01's compositor.rs has it: "bands from the top, the last cut to the screen; in each" what `bands` says.
 -- "Counts: regions, and pixels as the sum of width times height".
-use Rattle.std.specs.Prelude.{◌≡◌, ℕ, zero, suc, ◌+◌, ◌-◌, ◌*◌, ◌/◌, ◌≤◌, ◌<◌, min, List, [], ◌∷◌, ◌++◌, leb, length, drop, get_or}
+use Rattle.std.specs.Prelude.{◌≡◌, ℕ, zero, suc, ◌+◌, ◌-◌, ◌*◌, ◌/◌, ◌≤◌, ◌<◌, min, List, [], ◌∷◌, ◌++◌, leb, length, drop, get_or, Option, Some, None}
 use Rattle.lists.specs.Pick.{pick}
 use Rattle.lists.specs.Tables.{tabulate}
 use Rattle.geometry.specs.declared.Rect.{Rect}
@@ -8,8 +8,7 @@ use Rattle.device.specs.declared.DeviceRegion.{DeviceRegion}
 use Rattle.device.specs.Region.{area}
 use Rattle.rows.specs.Rows.{row_count}
 use Rattle.bands.specs.Bands.{regions_of, band_regions}
-use Rattle.scheduler.specs.declared.Scheduled.{Scheduled}
-use Rattle.scheduler.specs.declared.Scheduled.TheVariants.{Regions, Full}
+use Rattle.scheduler.specs.declared.Totals.{Totals}
 
 -- the sizes that document 01's header admits
 pub record Sizes (w h b : ℕ) : Type 0 where
@@ -57,11 +56,11 @@ abbrev pub regions_to : List ℕ → ℕ → List DeviceRegion
 regions_to ws n = tabulate (region_in ws) n
 
 -- the answer: the counts where the regions fit, which is where there is room for four words each
-abbrev pub answer_of : List DeviceRegion → ℕ → Scheduled
-answer_of l words = pick (leb (length l) (words / 4)) (Regions (length l) (pixels_of l)) Full
+abbrev pub answer_of : List DeviceRegion → ℕ → Option Totals
+answer_of l words = pick (leb (length l) (words / 4)) (Some (record { regions = length l; pixels = pixels_of l })) None
 
 -- The answer r for the regions l, with the words `before` and `after` it: where the regions fit, their words stand in front and
 -- the rest is as it was. Where they do not, the words are left open.
-pub record Answers (l : List DeviceRegion) (before : List ℕ) (r : Scheduled) (after : List ℕ) : Type 0 where
+pub record Answers (l : List DeviceRegion) (before : List ℕ) (r : Option Totals) (after : List ℕ) : Type 0 where
   pub answer : r ≡ answer_of l (length before)
   pub words : length l ≤ length before / 4 → after ≡ words_of l ++ drop (4 * length l) before

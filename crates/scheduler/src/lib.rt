@@ -9,11 +9,11 @@ ghost use Rattle.scheduler.specs.Schedule as Schedule;
 
 use device::DeviceRegion;
 
-// How many regions there are and how many pixels they have together; or that the space lent has no room for them.
+// How many regions there are, and how many pixels they have together.
 #[derive(Clone, Copy)]
-pub enum Scheduled {
-    Regions(usize, u64),
-    Full,
+pub struct Totals {
+    pub regions: usize,
+    pub pixels: u64,
 }
 
 // The band that starts at a row of the screen, cut to the screen.
@@ -21,16 +21,11 @@ fn band_at(width: u32, height: u32, band_height: u32, row: u32) -> DeviceRegion
     requires { row < height }
     ensures { result ≡ Schedule.band_from width height band_height row }
 {
-    let below = height - row;
     DeviceRegion {
         x: 0,
         y: row,
         width,
-        height: if band_height < below {
-            band_height
-        } else {
-            below
-        },
+        height: band_height.min(height - row),
     }
 }
 
@@ -39,11 +34,7 @@ fn put_region(out: &mut [u32], at: usize, r: DeviceRegion)
     requires { 4 * at + 4 ≤ length out.old }
     ensures { out.new ≡ take (4 * at) out.old ++ Schedule.region_words r ++ drop (4 * at + 4) out.old }
 {
-    let x = 4 * at;
-    out[x] = r.x;
-    out[x + 1] = r.y;
-    out[x + 2] = r.width;
-    out[x + 3] = r.height;
+    out[4 * at..4 * at + 4].copy_from_slice(&[r.x, r.y, r.width, r.height]);
 }
 
 // Writes the first m regions of work to out, from region number at on, and counts their pixels.
@@ -62,7 +53,7 @@ fn put_band(work: &[u64], m: usize, out: &mut [u32], at: usize) -> u64
 }
 
 // The regions of a screen for the first n boxes of rects, four edges each, as words at the front of out: x, y, width and
-// height of each. Where out has no room for all of them, what it holds is left open.
+// height of each. None where out has no room for all of them: what it holds is then left open.
 pub fn schedule(
     rects: &[f64],
     n: usize,
@@ -70,26 +61,26 @@ pub fn schedule(
     height: u32,
     band_height: u32,
     work: &mut [u64],
-    space: &mut [u64],
     out: &mut [u32],
-) -> Scheduled
+) -> Option<Totals>
     requires sizes { Schedule.Sizes width height band_height }
-    requires n_in_bounds { (4 * n ≤ length rects.now) × (n ≤ length work.old) × (n ≤ length space.old) }
+    requires n_in_bounds { (4 * n ≤ length rects.now) × (n ≤ length work.old) }
     ensures { Schedule.Answers (Schedule.schedule width height band_height (Bands.rects_to rects.now n)) out.old result out.new }
 {
     let room = out.len() / 4;
-    let mut row: u32 = 0;
     let mut count: usize = 0;
     let mut pixels: u64 = 0;
-    while row < height {
-        let band = band_at(width, height, band_height, row);
-        let m = bands::schedule_band(rects, n, width, height, band, work, space);
+    for j in 0..height.div_ceil(band_height) {
+        let band = band_at(width, height, band_height, j * band_height);
+        let m = bands::schedule_band(rects, n, width, height, band, work);
         if room - count < m {
-            return Scheduled::Full;
+            return None;
         }
         pixels += put_band(work, m, out, count);
         count += m;
-        row += band_height;
     }
-    Scheduled::Regions(count, pixels)
+    Some(Totals {
+        regions: count,
+        pixels,
+    })
 }

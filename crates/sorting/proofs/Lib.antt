@@ -1,7 +1,5 @@
 -- The laws that other crates may cite.
 pub mod Sorts
 pub mod Ascents
-pub mod Merges
-pub mod Halves
-pub mod Insertions
+pub mod Permuted
 mod Examples

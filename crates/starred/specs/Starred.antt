@@ -1,5 +1,5 @@
 -- Document 01, "Edges to hold": the starred cases, all of them, which hold together. Assumes nothing.
-use Rattle.std.specs.Prelude.{◌≡◌, List, [], ◌∷◌, ℕ, ◌+◌, Float}
+use Rattle.std.specs.Prelude.{◌≡◌, List, [], ◌∷◌, ℕ, ◌+◌, Float, Some, None}
 use Rattle.std.specs.Float.{binary64}
 use Rattle.std.specs.Float.Ieee.{neg, div, of_bits, to_bits}
 use Rattle.geometry.specs.declared.Rect.{Rect}
@@ -8,7 +8,6 @@ use Rattle.rows.specs.Rows.{row_count, row_of, final_row}
 use Rattle.index_words.specs.Index.{index_words}
 use Rattle.affine.specs.declared.Affine.{Affine}
 use Rattle.device.specs.declared.DeviceRegion.{DeviceRegion}
-use Rattle.device.specs.declared.Converted.TheVariants.{Region, Nothing}
 use Rattle.device.specs.Region.{from_logical}
 use Rattle.commands.specs.declared.Join.TheVariants as J
 use Rattle.commands.specs.declared.Cap.TheVariants as C
@@ -72,9 +71,9 @@ pub record Starred : Type 0 where
   -- "FILL box 0 0 10 10 to 0 0 6 10 by clip: only 6 0 10 10"
   pub cropped : changed_bounds (filled []) (filled (edges 0 0 6 10 ∷ [])) ≡ edges 6 0 10 10 ∷ []
   -- "(-1.5, 2.25, 3.5, 4) on 8 by 8: 0 2 4 2"
-  pub rounded_outward : from_logical (box (neg (3 ÷ 2)) (9 ÷ 4) (7 ÷ 2) (whole 4)) 8 8 ≡ Region (region 0 2 4 2)
+  pub rounded_outward : from_logical (box (neg (3 ÷ 2)) (9 ÷ 4) (7 ÷ 2) (whole 4)) 8 8 ≡ Some (region 0 2 4 2)
   -- "(3, 3, 3, 5): nothing"
-  pub no_width : from_logical (box (whole 3) (whole 3) (whole 3) (whole 5)) 8 8 ≡ Nothing
+  pub no_width : from_logical (box (whole 3) (whole 3) (whole 3) (whole 5)) 8 8 ≡ None
   -- "One band, 0 0 4 4 and 4 8 4 4: 0 0 8 12"
   pub touching_joined : one_band (sides 0 0 4 4 ∷ sides 4 8 4 4 ∷ []) ≡ region 0 0 8 12 ∷ []
   -- "With 5 8 4 4: two regions"

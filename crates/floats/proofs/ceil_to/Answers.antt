@@ -10,7 +10,7 @@ use Rattle.floats.proofs.ceil_to.Goals as goal
 pub returns-then-back-x : goal.returns-then-back-x
 returns-then-back-x c =
     let below-is : c.floor_to-below.result ≡ floor c.args.x = omega arith in
-    let test-is : (let x = c.args.x in lt (whole (floor x)) x ≡ lt c.nearest_u64_to_f64-back.result x) = let x = c.args.x in ap (λ n. lt (whole n) x) (sym (below-is)) ∙ ap (λ z. lt z x) (sym c.nearest_u64_to_f64-back.ensures) in
+    let test-is : (let x = c.args.x in lt (whole (floor x)) x ≡ lt c.from-back.result x) = let x = c.args.x in ap (λ n. lt (whole n) x) (sym (below-is)) ∙ ap (λ z. lt z x) (sym c.from-back.ensures) in
     let s = c in
     let b = below-is in
     let k = ceil_more s.args.x (ordered_of _ s.well_formed.0.1 (lt_right _ _ c.if-back-x.true)) (omega arith) (test-is ∙ c.if-back-x.true) in
@@ -19,7 +19,7 @@ returns-then-back-x c =
 pub returns-else-back-x : goal.returns-else-back-x
 returns-else-back-x c =
     let below-is : c.floor_to-below.result ≡ floor c.args.x = omega arith in
-    let test-is : (let x = c.args.x in lt (whole (floor x)) x ≡ lt c.nearest_u64_to_f64-back.result x) = let x = c.args.x in ap (λ n. lt (whole n) x) (sym (below-is)) ∙ ap (λ z. lt z x) (sym c.nearest_u64_to_f64-back.ensures) in
+    let test-is : (let x = c.args.x in lt (whole (floor x)) x ≡ lt c.from-back.result x) = let x = c.args.x in ap (λ n. lt (whole n) x) (sym (below-is)) ∙ ap (λ z. lt z x) (sym c.from-back.ensures) in
     let s = c in
     let b = below-is in
     let k = ceil_not_more s.args.x s.well_formed.0.1 (omega arith) (test-is ∙ c.if-back-x.false) in

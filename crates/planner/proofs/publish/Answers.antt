@@ -10,36 +10,36 @@ enum_known-plan c = c.in-Ok.in-Ok-own.keys1
 pub overflow_mul-accepted : goal.overflow_mul-accepted
 overflow_mul-accepted c = let k = planned c.in-Ok.is c.requires in omega (arith, k.from_rects)
 
-pub copy_f64-requires : goal.copy_f64-requires
-copy_f64-requires c = let k = planned c.in-Ok.is c.requires in (omega (arith, k.from_rects), omega (arith, k.to_rects))
+pub copy_front-requires : goal.copy_front-requires
+copy_front-requires c = let k = planned c.in-Ok.is c.requires in (omega (arith, k.from_rects), omega (arith, k.to_rects))
 
 pub overflow_mul-region_count : goal.overflow_mul-region_count
 overflow_mul-region_count c = let k = planned c.in-Ok.is c.requires in omega (arith, k.from_regions)
 
-pub copy_u32-requires : goal.copy_u32-requires
-copy_u32-requires c = let k = planned c.in-Ok.is c.requires in (omega (arith, k.from_regions), omega (arith, k.to_regions))
+pub copy_front-requires-in-Ok : goal.copy_front-requires-in-Ok
+copy_front-requires-in-Ok c = let k = planned c.in-Ok.is c.requires in (omega (arith, k.from_regions), omega (arith, k.to_regions))
 
-pub copy_u32-requires-in-Ok : goal.copy_u32-requires-in-Ok
-copy_u32-requires-in-Ok c = let k = planned c.in-Ok.is c.requires in (omega (arith, k.from_words), omega (arith, k.to_words))
+pub copy_front-requires-in-Ok-2 : goal.copy_front-requires-in-Ok-2
+copy_front-requires-in-Ok-2 c = let k = planned c.in-Ok.is c.requires in (omega (arith, k.from_words), omega (arith, k.to_words))
 
 pub enum_told-1 : goal.enum_told-1
 enum_told-1 c = c.in-Err.in-Err-own.keys2
 
 pub shape_of-rects : goal.shape_of-rects
-shape_of-rects c = c.copy_f64.auto.dst
+shape_of-rects c = c.copy_front.auto.dst
 
 pub shape_of-regions : goal.shape_of-regions
-shape_of-regions c = c.copy_u32.auto.dst
+shape_of-regions c = c.copy_front-in-Ok.auto.dst
 
 pub shape_of-words : goal.shape_of-words
-shape_of-words c = c.copy_u32-in-Ok.auto.dst
+shape_of-words c = c.copy_front-in-Ok-2.auto.dst
 
 pub returns-in-Ok : goal.returns-in-Ok
 returns-in-Ok c =
     record {
-      rectangles = c.copy_f64.ensures ∙ copied rect_count _ _ c.in-Ok.is c.args.draft_rects.now c.args.rects.now;
-      scheduled = c.copy_u32.ensures ∙ copied region_count _ _ c.in-Ok.is c.args.draft_regions.now c.args.regions.now;
-      index = c.copy_u32-in-Ok.ensures ∙ copied word_count _ _ c.in-Ok.is c.args.draft_words.now c.args.words.now;
+      rectangles = c.copy_front.ensures ∙ copied rect_count _ _ c.in-Ok.is c.args.draft_rects.now c.args.rects.now;
+      scheduled = c.copy_front-in-Ok.ensures ∙ copied region_count _ _ c.in-Ok.is c.args.draft_regions.now c.args.regions.now;
+      index = c.copy_front-in-Ok-2.ensures ∙ copied word_count _ _ c.in-Ok.is c.args.draft_words.now c.args.words.now;
     }
 
 pub returns-in-Err : goal.returns-in-Err

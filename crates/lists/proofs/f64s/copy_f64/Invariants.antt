@@ -1,5 +1,0 @@
-use Rattle.lists.proofs.Slices.{Copied}
-use Rattle.lists.proofs.f64s.copy_f64.Given as goal
-
-abbrev pub invariant-loop-i : goal.invariant-loop-i
-invariant-loop-i l = Copied l.src l.n l.initial.dst l.dst l.i
