@@ -1,5 +1,5 @@
 -- Floats in a row: one after another they are found to be finite, and read. Assumes nothing.
-use mathlib.Core.Path.{◌≡◌, refl, ap, sym, subst, ◌∙◌}
+use mathlib.Core.Path.{◌≡◌, ap, sym, subst, ◌∙◌}
 use mathlib.Core.Bool.{true}
 use mathlib.Core.List.{List}
 use Prim.Native.Nat.{ℕ, zero, suc, ◌+◌, ◌*◌, ◌≤◌, ◌<◌}
@@ -9,8 +9,6 @@ use lib.Ieee.Scale.{finite}
 use lib.ListN.{length, get_or, set, replicate}
 use borrow.Author.Count.{below_more}
 use Rattle.std.proofs.lemmas.List.{get_or-set_same, get_or-set_other, get_or-replicate}
-use Rattle.geometry.specs.declared.Rect.{Rect}
-use Rattle.affine.specs.declared.Affine.{Affine}
 use Rattle.little_endian.specs.Words.{u64_at, f64_at}
 use Rattle.little_endian.proofs.Past.{f64_past}
 use Rattle.strip_format.specs.Format.{rect_at, affine_at}

@@ -13,6 +13,7 @@ use commands::{Cap, DrawCommand, Join, Stroke};
 use geometry::Rect;
 
 // The length of a command with its operands, by its byte; 1 for bytes that are no command's.
+#[tactic(auto, unfolding(crate::specs::Format::length_of))]
 pub fn length_of(b: u8) -> usize
     ensures { result ≡ Format.length_of b }
 {
@@ -145,6 +146,7 @@ pub fn near_rect(s: &[u8], at: usize) -> bool
 }
 
 // The codes are the strip's own: as `From<u8>` of the enums they would stand in `commands`, where no byte is read, and every code over 1 be Round there too.
+#[tactic(auto, unfolding(crate::specs::Format::join_of))]
 fn join_of(code: u8) -> Join
     ensures { result ≡ Format.join_of code }
 {
@@ -155,6 +157,7 @@ fn join_of(code: u8) -> Join
     }
 }
 
+#[tactic(auto, unfolding(crate::specs::Format::cap_of))]
 fn cap_of(code: u8) -> Cap
     ensures { result ≡ Format.cap_of code }
 {

@@ -1,5 +1,4 @@
 use mathlib.Core.Path.{sym, ◌∙◌}
-use mathlib.Core.Bool.{false≢true}
 use Rattle.strip_format.proofs.Floats.{finite_none, finite_more}
 use Rattle.strip_format.proofs.all_finite.Goals as goal
 
