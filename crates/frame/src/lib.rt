@@ -29,7 +29,7 @@ pub enum Pair {
     NotBoth(u32, usize),
 }
 
-fn size_fits(n: u64) -> bool
+fn size_fits(n: u32) -> bool
     ensures { result ≡ Frame.size_fits n }
 {
     if n == 0 { false } else { n <= 32768 }
@@ -47,7 +47,7 @@ pub fn read_header(s: &[u8]) -> Header
     if size_fits(width) {
         if size_fits(height) {
             if size_fits(band) {
-                return Header::Sizes(width as u32, height as u32, band as u32);
+                return Header::Sizes(width, height, band);
             }
             return Header::BadHeader(1);
         }
