@@ -25,17 +25,25 @@ fn bytes_inside<const N: usize>(s: &[u8], at: usize) -> [u8; N]
     *s[at..at + N].as_array().unwrap()
 }
 
-// The N bytes from an offset on, which the end may cut.
-fn bytes_at<const N: usize>(s: &[u8], at: usize) -> [u8; N]
+// The N bytes from an offset on, which the end may cut. By itself, so that where all bytes are there nothing but their place is asked.
+#[inline(never)]
+fn bytes_cut<const N: usize>(s: &[u8], at: usize) -> [u8; N]
     ensures { (i : ℕ) → i < N → get_or result i 0 ≡ get_or s.now (at + i) 0 }
 {
     let rest = &s[at.min(s.len())..];
-    if let Some(bytes) = rest.first_chunk() {
-        return *bytes;
-    }
+    let n = rest.len().min(N);
     let mut bytes = [0; N];
-    bytes[..rest.len()].copy_from_slice(rest);
+    bytes[..n].copy_from_slice(&rest[..n]);
     bytes
+}
+
+fn bytes_at<const N: usize>(s: &[u8], at: usize) -> [u8; N]
+    ensures { (i : ℕ) → i < N → get_or result i 0 ≡ get_or s.now (at + i) 0 }
+{
+    if at < s.len() && N <= s.len() - at {
+        return bytes_inside(s, at);
+    }
+    bytes_cut(s, at)
 }
 
 #[tactic(auto, using(crate::proofs::Read::u16_read))]

@@ -28,7 +28,8 @@ pub fn length_of(b: u8) -> usize
     }
 }
 
-// The N f64 from an offset on, as many as a box or an affine has.
+// The N f64 from an offset on, as many as a box or an affine has. By itself, so that what calls it only for floats that are not finite stays small.
+#[inline(never)]
 fn floats_at<const N: usize>(s: &[u8], at: usize) -> [f64; N]
     requires { N ≤ 6 }
     ensures { FloatsFrom s.now at N result }
