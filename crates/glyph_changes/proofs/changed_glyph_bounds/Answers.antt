@@ -4,6 +4,7 @@ use mathlib.Core.Logic.{inl, inr}
 use native.Mathlib.Omega.{arith}
 use Rattle.lists.proofs.Picks.{by_le}
 use Rattle.rect_list.proofs.Turns.{going_add, going_last}
+use Rattle.glyph_changes.specs.Runs.{windowed}
 use Rattle.glyph_changes.proofs.Places.{changed_next, changed_rest}
 use Rattle.glyph_changes.proofs.changed_glyph_bounds.Goals as goal
 
@@ -13,7 +14,7 @@ loop-k-preserved c = (omega (arith, c.append_changed-m.ensures.most, c.min-commo
 pub returns : goal.returns
 returns c =
     going_last
-    (going_add c.loop-k.invariant.1 (changed_rest _ _ _ _ _ _ _ _ _ (omega arith) (by_le c.args.old.count c.args.new.count (λ h. inl (omega (arith, c.min-common.ensures))) (λ h. inr (omega (arith, c.min-common.ensures))))) c.append_glyph_bounds-m.ensures)
+    (going_add c.loop-k.invariant.1 (changed_rest (windowed c.args.boxes.now c.args.old) (windowed c.args.boxes.now c.args.new) c.args.s.now c.args.old.glyphs c.args.old.count c.args.new.glyphs c.args.new.count c.loop-k.k c.min-common.result (omega arith) (by_le c.args.old.count c.args.new.count (λ h. inl (omega (arith, c.min-common.ensures))) (λ h. inr (omega (arith, c.min-common.ensures))))) c.append_glyph_bounds-m.ensures)
     refl
     (omega (arith, c.append_glyph_bounds-m.ensures.most, c.append_glyph_bounds.ensures.most, c.min-common.ensures, c.loop-k.invariant.0))
     c.append_glyph_bounds.ensures
