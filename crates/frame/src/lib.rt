@@ -24,16 +24,16 @@ pub struct Strips {
 }
 
 #[tactic(auto, unfolding(crate::specs::Frame::size_fits))]
-fn size_fits(n: u64) -> bool
+fn size_fits(n: u32) -> bool
     ensures { result ≡ Frame.size_fits n }
 {
     n != 0 && n <= 32768
 }
 
-fn sizes_fit(width: u64, height: u64, band: u64) -> bool
-    ensures { result ≡ (Frame.size_fits width && (Frame.size_fits height && Frame.size_fits band)) }
+fn sizes_fit(width: u32, height: u32, band_height: u32) -> bool
+    ensures { result ≡ (Frame.size_fits width && (Frame.size_fits height && Frame.size_fits band_height)) }
 {
-    size_fits(width) && size_fits(height) && size_fits(band)
+    size_fits(width) && size_fits(height) && size_fits(band_height)
 }
 
 pub fn read_header(s: &[u8]) -> Result<Header, Refusal>
@@ -44,14 +44,14 @@ pub fn read_header(s: &[u8]) -> Result<Header, Refusal>
     }
     let width = little_endian::u32_at(s, 0);
     let height = little_endian::u32_at(s, 4);
-    let band = little_endian::u32_at(s, 8);
-    if !sizes_fit(width, height, band) {
+    let band_height = little_endian::u32_at(s, 8);
+    if !sizes_fit(width, height, band_height) {
         return Err(Fault::Size.at(0));
     }
     Ok(Header {
-        width: width as u32,
-        height: height as u32,
-        band_height: band as u32,
+        width,
+        height,
+        band_height,
     })
 }
 

@@ -1,16 +1,17 @@
 -- Runs of glyphs, place by place. Assumes nothing.
 use mathlib.Core.Path.{◌≡◌, refl, sym, ap, ◌∙◌}
-use mathlib.Core.Bool.{Bool, true, false}
-use mathlib.Core.List.{List, [], ◌∷◌, ◌++◌}
-use Prim.Native.Nat.{ℕ, zero, suc, ◌+◌, ◌-◌, ◌≤◌, ◌<◌}
+use mathlib.Core.Bool.{Bool, true, false, ◌&&◌}
+use mathlib.Core.List.{List, [], ◌∷◌, ◌++◌, append-nil}
+use mathlib.Core.Logic.{◌⊎◌, inl, inr, ⊎_elim}
+use Prim.Native.Nat.{ℕ, zero, suc, ◌+◌, ◌-◌, ◌*◌, ◌≤◌, ◌<◌}
 use native.Mathlib.Omega.{arith}
-use lib.Dec.{eqb}
 use lib.Ieee.{Float, eq}
 use borrow.Author.Tests.{eq-eqb, ne_eqb}
+use Rattle.lists.proofs.Bools.{and_false}
 use Rattle.lists.proofs.Picks.{pick_true, pick_false}
 use Rattle.little_endian.specs.Same.{SameBytes}
 use Rattle.geometry.specs.declared.Rect.{Rect}
-use Rattle.geometry.specs.Boxes.{union, same_edges}
+use Rattle.geometry.specs.Boxes.{union}
 use Rattle.commands.specs.declared.Glyph.{Glyph}
 use Rattle.operand_equality.specs.Operands.{same_glyph, equal_glyph, equal_glyphs}
 use Rattle.operand_equality.proofs.Selves.{glyph_self, equal_glyph_self}
@@ -19,38 +20,59 @@ use Rattle.strip_format.proofs.Alike.{glyph_twice}
 use Rattle.strip_format.proofs.Numbers.{single_finite, rect_numbers}
 use Rattle.glyph_changes.specs.Runs.{boxes_by, changed_at, changed_by}
 
-back : (n : ℕ) → suc n - 1 ≡ n
-back n = omega arith
+-- ---- the glyphs of a run from the one of a number on
+module _ (s : List ℕ) (at n : ℕ) where
+  abbrev pub from : ℕ → List Glyph
+  from k = glyphs_from s (at + 45 * k) (n - k)
+
+  pub from_next : (k : ℕ) → k < n → from k ≡ glyph_at s (at + 45 * k) ∷ from (k + 1)
+  unfolding glyphs_from
+  from_next k h =
+      let e : n - k ≡ suc (n - (k + 1)) = omega arith in
+      let d : at + 45 * k + 45 ≡ at + 45 * (k + 1) = omega arith in
+      ap (glyphs_from s (at + 45 * k)) e ∙ ap (λ (p : ℕ). glyph_at s (at + 45 * k) ∷ glyphs_from s p (n - (k + 1))) d
+
+  pub from_end : (k : ℕ) → n ≤ k → from k ≡ []
+  unfolding glyphs_from
+  from_end k h = let e : n - k ≡ 0 = omega arith in ap (glyphs_from s (at + 45 * k)) e
+
+  pub from_start : from 0 ≡ glyphs_from s at n
+  from_start = λ i. glyphs_from s (start i) (whole i)
+    where
+      start : at + 45 * 0 ≡ at
+      start = omega arith
+
+      whole : n - 0 ≡ n
+      whole = omega arith
 
 -- ---- the boxes of what is left of a run
-module _ (f : Glyph → Rect) (s : List ℕ) where
-  pub boxes_end : (p i : ℕ) → i ≤ 0 → boxes_by f (glyphs_from s p i) ≡ []
-  unfolding glyphs_from boxes_by
-  boxes_end p zero h = refl
-  boxes_end p (suc i) h = absurd (omega arith)
+module _ (f : Glyph → Rect) (s : List ℕ) (at n : ℕ) where
+  pub boxes_end : (k : ℕ) → n ≤ k → boxes_by f (from s at n k) ≡ []
+  unfolding boxes_by
+  boxes_end k h = ap (boxes_by f) (from_end s at n k h)
 
-  pub boxes_next : (p i : ℕ) (b : Rect) → 0 < i → b ≡ f (glyph_at s p) → boxes_by f (glyphs_from s p i) ≡ (b ∷ []) ++ boxes_by f (glyphs_from s (p + 45) (i - 1))
-  unfolding glyphs_from boxes_by
-  boxes_next p zero b h e = absurd (omega arith)
-  boxes_next p (suc i) b h e = rw (back i, e)
+  pub boxes_next : (k : ℕ) {b : Rect} → k < n → b ≡ f (glyph_at s (at + 45 * k)) → boxes_by f (from s at n k) ≡ (b ∷ []) ++ boxes_by f (from s at n (k + 1))
+  unfolding boxes_by
+  boxes_next k h e = ap (boxes_by f) (from_next s at n k h) ∙ ap (λ (r : Rect). r ∷ boxes_by f (from s at n (k + 1))) (sym e)
 
 -- ---- what changed, from two places on
 module _ (f g : Glyph → Rect) (s : List ℕ) where
-  pub changed_new : (p i q j : ℕ) → i ≤ 0 → changed_by f g (glyphs_from s p i) (glyphs_from s q j) ≡ boxes_by g (glyphs_from s q j)
-  unfolding glyphs_from changed_by
-  changed_new p zero q j h = refl
-  changed_new p (suc i) q j h = absurd (omega arith)
+  pub changed_next : (a m b n k : ℕ) → k < m → k < n → changed_by f g (from s a m k) (from s b n k) ≡ changed_at f g (glyph_at s (a + 45 * k)) (glyph_at s (b + 45 * k)) ++ changed_by f g (from s a m (k + 1)) (from s b n (k + 1))
+  unfolding changed_by
+  changed_next a m b n k h l = λ i. changed_by f g (from_next s a m k h i) (from_next s b n k l i)
 
-  pub changed_old : (p i q j : ℕ) → 0 < i → j ≡ 0 → changed_by f g (glyphs_from s p i) (glyphs_from s q j) ≡ boxes_by f (glyphs_from s p i)
-  unfolding glyphs_from changed_by
-  changed_old p zero q j h e = absurd (omega arith)
-  changed_old p (suc i) q j h e = rw e
-
-  pub changed_next : (p i q j : ℕ) → 0 < i → (j ≡ 0 → ⊥) → changed_by f g (glyphs_from s p i) (glyphs_from s q j) ≡ changed_at f g (glyph_at s p) (glyph_at s q) ++ changed_by f g (glyphs_from s (p + 45) (i - 1)) (glyphs_from s (q + 45) (j - 1))
-  unfolding glyphs_from changed_by
-  changed_next p zero q j h k = absurd (omega arith)
-  changed_next p (suc i) q zero h k = absurd (k refl)
-  changed_next p (suc i) q (suc j) h k = rw (back i, back j)
+  -- from the last common place on, c
+  pub changed_rest : (a m b n k c : ℕ) → k ≡ c → (m ≤ c) ⊎ (n ≤ c) → changed_by f g (from s a m k) (from s b n k) ≡ boxes_by f (from s a m c) ++ boxes_by g (from s b n c)
+  unfolding changed_by boxes_by
+  changed_rest a m b n k c e h =
+      ap (λ (z : ℕ). changed_by f g (from s a m z) (from s b n z)) e
+      ∙ go (from s a m c) (from s b n c) (⊎_elim (λ z. inl (from_end s a m c z)) (λ z. inr (from_end s b n c z)) h)
+    where
+      go : (x y : List Glyph) → (x ≡ []) ⊎ (y ≡ []) → changed_by f g x y ≡ boxes_by f x ++ boxes_by g y
+      go [] y e = refl
+      go (v ∷ x) [] e = sym (append-nil (boxes_by f (v ∷ x)))
+      go (v ∷ x) (w ∷ y) (inl e) = absurd (cc)
+      go (v ∷ x) (w ∷ y) (inr e) = absurd (cc)
 
   -- at one place
   pub changed_none : (p q : ℕ) → same_glyph (glyph_at s p) (glyph_at s q) ≡ true → [] ≡ changed_at f g (glyph_at s p) (glyph_at s q)
@@ -73,29 +95,33 @@ module _ (s : List ℕ) (p q : ℕ) (w : SameBytes s p q 45) where
   same_equal = ap (equal_glyph (glyph_at s p)) (sym there) ∙ equal_glyph_self (glyph_at s p) (single_finite s (p + 5)) (single_finite s (p + 9)) (rect_numbers s (p + 13))
 
 -- ---- whether all are equal, from two places on
-module _ (s : List ℕ) where
-  pub equal_end : (p i q j : ℕ) → i ≤ 0 → eqb j 0 ≡ equal_glyphs (glyphs_from s p i) (glyphs_from s q j)
-  unfolding glyphs_from equal_glyphs
-  equal_end p zero q zero h = refl
-  equal_end p zero q (suc j) h = ne_eqb (suc j) 0 (λ e. omega arith)
-  equal_end p (suc i) q j h = absurd (omega arith)
+module _ (s : List ℕ) (a m b n : ℕ) where
+  pub equal_next : (k : ℕ) → k < m → k < n → equal_glyph (glyph_at s (a + 45 * k)) (glyph_at s (b + 45 * k)) ≡ true → equal_glyphs (from s a m k) (from s b n k) ≡ equal_glyphs (from s a m (k + 1)) (from s b n (k + 1))
+  unfolding equal_glyphs
+  equal_next k h l e =
+      (λ i. equal_glyphs (from_next s a m k h i) (from_next s b n k l i))
+      ∙ ap (λ (t : Bool). t && equal_glyphs (from s a m (k + 1)) (from s b n (k + 1))) e
 
-  pub equal_short : (p i q j : ℕ) → 0 < i → j ≡ 0 → false ≡ equal_glyphs (glyphs_from s p i) (glyphs_from s q j)
-  unfolding glyphs_from equal_glyphs
-  equal_short p zero q j h e = absurd (omega arith)
-  equal_short p (suc i) q j h e = rw e
+  pub equal_stop : (k : ℕ) → k < m → k < n → equal_glyph (glyph_at s (a + 45 * k)) (glyph_at s (b + 45 * k)) ≡ false → equal_glyphs (from s a m k) (from s b n k) ≡ false
+  unfolding equal_glyphs
+  equal_stop k h l e =
+      (λ i. equal_glyphs (from_next s a m k h i) (from_next s b n k l i))
+      ∙ ap (λ (t : Bool). t && equal_glyphs (from s a m (k + 1)) (from s b n (k + 1))) e
 
-  pub equal_next : (p i q j : ℕ) → 0 < i → (j ≡ 0 → ⊥) → equal_glyph (glyph_at s p) (glyph_at s q) ≡ true → equal_glyphs (glyphs_from s p i) (glyphs_from s q j) ≡ equal_glyphs (glyphs_from s (p + 45) (i - 1)) (glyphs_from s (q + 45) (j - 1))
-  unfolding glyphs_from equal_glyphs
-  equal_next p zero q j h k e = absurd (omega arith)
-  equal_next p (suc i) q zero h k e = absurd (k refl)
-  equal_next p (suc i) q (suc j) h k e = rw (e, back i, back j)
+  pub equal_end : (k : ℕ) → m ≤ k → n ≤ k → equal_glyphs (from s a m k) (from s b n k) ≡ true
+  unfolding equal_glyphs
+  equal_end k h l = λ i. equal_glyphs (from_end s a m k h i) (from_end s b n k l i)
 
-  pub equal_stop : (p i q j : ℕ) → 0 < i → (j ≡ 0 → ⊥) → equal_glyph (glyph_at s p) (glyph_at s q) ≡ false → false ≡ equal_glyphs (glyphs_from s p i) (glyphs_from s q j)
+  -- as many
+  pub equal_counts : (m ≡ n → ⊥) → equal_glyphs (glyphs_from s a m) (glyphs_from s b n) ≡ false
   unfolding glyphs_from equal_glyphs
-  equal_stop p zero q j h k e = absurd (omega arith)
-  equal_stop p (suc i) q zero h k e = absurd (k refl)
-  equal_stop p (suc i) q (suc j) h k e = rw e
+  equal_counts = go m a n b
+    where
+      go : (m a n b : ℕ) → (m ≡ n → ⊥) → equal_glyphs (glyphs_from s a m) (glyphs_from s b n) ≡ false
+      go zero a zero b h = absurd (h refl)
+      go zero a (suc n) b h = refl
+      go (suc m) a zero b h = refl
+      go (suc m) a (suc n) b h = ap (λ (t : Bool). equal_glyph (glyph_at s a) (glyph_at s b) && t) (go m (a + 45) n (b + 45) (λ e. h (ap suc e))) ∙ and_false (equal_glyph (glyph_at s a) (glyph_at s b)) false refl
 
 -- ---- calls' answers for operands that were read, as tests and boxes of the glyphs in the strip
 module _ (g h : Glyph) {i j : ℕ} (p : i ≡ g.id) (q : j ≡ h.id) where
@@ -110,15 +136,6 @@ module _ (g h : Glyph) {i j : ℕ} (p : i ≡ g.id) (q : j ≡ h.id) where
   pub alike_by_y : i ≡ j → {x y : Float} → x ≡ g.x → y ≡ h.x → eq x y ≡ true → {v w : Float} → v ≡ g.y → w ≡ h.y → eq v w ≡ same_glyph g h
   unfolding same_glyph
   alike_by_y same {x} {y} d e k {v} {w} a b = rw (sym p, sym q, eq-eqb i j same, sym d, sym e, k, sym a, sym b)
-
-module _ (g h : Glyph) {t : Bool} (e : t ≡ same_glyph g h) where
-  pub equal_by_painting : t ≡ false → false ≡ equal_glyph g h
-  unfolding equal_glyph
-  equal_by_painting k = rw (sym e, k)
-
-  pub equal_by_boxes : t ≡ true → {r : Bool} {b c : Rect} → b ≡ g.bounds → c ≡ h.bounds → r ≡ same_edges b c → r ≡ equal_glyph g h
-  unfolding equal_glyph
-  equal_by_boxes k p q v = rw (sym e, k, sym p, sym q, v)
 
 pub united_by : {r a b c d : Rect} → r ≡ union a b → a ≡ c → b ≡ d → r ≡ union c d
 united_by e p q = e ∙ (λ i. union (p i) (q i))

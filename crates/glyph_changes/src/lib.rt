@@ -2,7 +2,7 @@
 // compared or placed is read, from the strip where it stands.
 #![tactic(auto)]
 
-ghost use Rattle.std.specs.Prelude.{◌≡◌, ◌+◌, ◌*◌, ◌≤◌, ◌<◌, length};
+ghost use Rattle.std.specs.Prelude.{◌≡◌, ◌+◌, ◌-◌, ◌*◌, ◌≤◌, ◌<◌, length};
 ghost use Rattle.operand_equality.specs.Operands.{same_glyph, equal_glyph, equal_glyphs};
 ghost use Rattle.strip_format.specs.Format.{glyph_at, glyphs_from};
 ghost use Rattle.rect_list.specs.Rects.{Added};
@@ -27,15 +27,13 @@ fn glyph_eq(s: &[u8], p: usize, q: usize) -> bool
     requires { (p + 45 ≤ length s.now) × (q + 45 ≤ length s.now) }
     ensures { result ≡ same_glyph (glyph_at s.now p) (glyph_at s.now q) }
 {
-    if little_endian::u32_inside(s, p + 1) == little_endian::u32_inside(s, q + 1) {
-        if little_endian::f32_at(s, p + 5) == little_endian::f32_at(s, q + 5) {
-            return little_endian::f32_at(s, p + 9) == little_endian::f32_at(s, q + 9);
-        }
-    }
-    false
+    little_endian::u32_inside(s, p + 1) == little_endian::u32_inside(s, q + 1)
+        && little_endian::f32_at(s, p + 5) == little_endian::f32_at(s, q + 5)
+        && little_endian::f32_at(s, p + 9) == little_endian::f32_at(s, q + 9)
 }
 
 // Whether the glyphs at two offsets are equal, with equal boxes. Most have the same bytes, and then none is decoded.
+#[tactic(auto, unfolding(operand_equality::specs::Operands::equal_glyph))]
 fn equal_at(s: &[u8], p: usize, q: usize) -> bool
     requires { (p + 45 ≤ length s.now) × (q + 45 ≤ length s.now) }
     ensures { result ≡ equal_glyph (glyph_at s.now p) (glyph_at s.now q) }
@@ -43,12 +41,12 @@ fn equal_at(s: &[u8], p: usize, q: usize) -> bool
     if little_endian::same_bytes(s, p, q, 45) {
         return true;
     }
-    if glyph_eq(s, p, q) {
-        let b = strip_format::rect_inside(s, p + 13);
-        let c = strip_format::rect_inside(s, q + 13);
-        return b.same_edges(c);
+    if !glyph_eq(s, p, q) {
+        return false;
     }
-    false
+    let b = strip_format::rect_inside(s, p + 13);
+    let c = strip_format::rect_inside(s, q + 13);
+    b.same_edges(c)
 }
 
 // Whether two runs have equal glyphs, with equal boxes, and as many.
@@ -56,27 +54,19 @@ pub fn equal_glyphs(s: &[u8], old: Run, new: Run) -> bool
     requires { Inside s.now old.glyphs old.count × Inside s.now new.glyphs new.count }
     ensures { result ≡ equal_glyphs (glyphs_of s.now old) (glyphs_of s.now new) }
 {
-    let mut p = old.glyphs;
-    let mut q = new.glyphs;
-    let mut i = old.count as usize;
-    let mut j = new.count as usize;
-    while 0 < i {
-        if j == 0 {
-            return false;
-        }
-        if equal_at(s, p, q) {
-            p += 45;
-            q += 45;
-            i -= 1;
-            j -= 1;
-        } else {
+    if old.count != new.count {
+        return false;
+    }
+    for k in 0..old.count as usize {
+        if !equal_at(s, old.glyphs + 45 * k, new.glyphs + 45 * k) {
             return false;
         }
     }
-    j == 0
+    true
 }
 
 // The box on the window of the glyph at an offset.
+#[tactic(auto, unfolding(crate::specs::Runs::windowed))]
 fn window_at(s: &[u8], boxes: &[f64], run: Run, at: usize) -> Rect
     requires { (8 * run.clip ≤ length boxes.now) × (at + 45 ≤ length s.now) }
     ensures { result ≡ windowed boxes.now run (glyph_at s.now at) }
@@ -87,27 +77,22 @@ fn window_at(s: &[u8], boxes: &[f64], run: Run, at: usize) -> Rect
     display_list::window_glyph_bounds(boxes, number, transform, bounds)
 }
 
-// Appends the boxes of a run's glyphs, of which `count` are left from an offset on.
+// Appends the boxes of a run's glyphs from the one of a number on.
 fn append_glyph_bounds(
     s: &[u8],
     boxes: &[f64],
     run: Run,
-    at: usize,
-    count: usize,
+    first: usize,
     rects: &mut [f64],
     n: usize,
 ) -> usize
-    requires { (8 * run.clip ≤ length boxes.now) × Inside s.now at count × (n + count < 9223372036854775808) }
-    ensures { Added count rects.old n (boxes_by (windowed boxes.now run) (glyphs_from s.now at count)) rects.new result }
+    requires { (8 * run.clip ≤ length boxes.now) × Inside s.now run.glyphs run.count × (first ≤ run.count) × (n + (run.count - first) < 9223372036854775808) }
+    ensures { Added (run.count - first) rects.old n (boxes_by (windowed boxes.now run) (glyphs_from s.now (run.glyphs + 45 * first) (run.count - first))) rects.new result }
 {
     let mut m = n;
-    let mut p = at;
-    let mut i = count;
-    while 0 < i {
-        let b = window_at(s, boxes, run, p);
+    for k in first..run.count as usize {
+        let b = window_at(s, boxes, run, run.glyphs + 45 * k);
         m = rect_list::append(rects, m, b);
-        p += 45;
-        i -= 1;
     }
     m
 }
@@ -151,22 +136,13 @@ pub fn changed_glyph_bounds(
     requires { (8 * old.clip ≤ length boxes.now) × (8 * new.clip ≤ length boxes.now) × Inside s.now old.glyphs old.count × Inside s.now new.glyphs new.count × (n + most_boxes < 9223372036854775808) }
     ensures { Added most_boxes rects.old n (changed_by (windowed boxes.now old) (windowed boxes.now new) (glyphs_of s.now old) (glyphs_of s.now new)) rects.new result }
 {
+    let common = old.count.min(new.count) as usize;
     let mut m = n;
-    let mut p = old.glyphs;
-    let mut q = new.glyphs;
-    let mut i = old.count as usize;
-    let mut j = new.count as usize;
-    while 0 < i {
-        if j == 0 {
-            return append_glyph_bounds(s, boxes, old, p, i, rects, m);
-        }
-        let p1 = p + 45;
-        let q1 = q + 45;
+    for k in 0..common {
+        let p = old.glyphs + 45 * k;
+        let q = new.glyphs + 45 * k;
         m = append_changed(s, boxes, old, new, p, q, rects, m);
-        p = p1;
-        q = q1;
-        i -= 1;
-        j -= 1;
     }
-    append_glyph_bounds(s, boxes, new, q, j, rects, m)
+    m = append_glyph_bounds(s, boxes, old, common, rects, m);
+    append_glyph_bounds(s, boxes, new, common, rects, m)
 }

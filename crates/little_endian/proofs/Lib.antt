@@ -3,3 +3,5 @@ pub mod Past
 pub mod Alike
 pub mod Parts
 pub mod Same
+pub mod Read
+pub mod Floats

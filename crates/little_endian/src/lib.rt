@@ -3,18 +3,12 @@
 // `_inside`, and `same_bytes`, are for callers that have tested the length: they ask for it, and test nothing.
 #![tactic(auto)]
 
-ghost use Rattle.std.specs.Prelude.{◌≡◌, true, ◌+◌, ◌-◌, ◌≤◌, ◌<◌, ◌^◌, length, get_or};
+ghost use Rattle.std.specs.Prelude.{◌≡◌, true, ℕ, ◌+◌, ◌≤◌, ◌<◌, length, get_or};
 ghost use Rattle.std.specs.Float.{binary32, binary64};
 ghost use Rattle.std.specs.Float.Ieee.{of_bits};
 ghost use Rattle.std.specs.Float.Ieee.Scale.{finite};
-ghost use Rattle.little_endian.specs.Words.{u16_at, u32_at, u64_at, finite_or, f32_at, f64_at};
+ghost use Rattle.little_endian.specs.Words.{u16_at, u32_at, u64_at, f32_at, f64_at};
 ghost use Rattle.little_endian.specs.Same.{SameBytes};
-
-fn wide(x: u8) -> u64
-    ensures { (result ≡ x) × (result < 256) }
-{
-    x as u64
-}
 
 // The byte at an offset.
 pub fn byte_at(s: &[u8], at: usize) -> u8
@@ -23,73 +17,73 @@ pub fn byte_at(s: &[u8], at: usize) -> u8
     if at < s.len() { s[at] } else { 0 }
 }
 
-pub fn u16_at(s: &[u8], at: usize) -> u64
-    ensures { (result ≡ u16_at s.now at) × (result < 2 ^ 16) }
+// The N bytes from an offset on, which are all there: none is asked for its place.
+fn bytes_inside<const N: usize>(s: &[u8], at: usize) -> [u8; N]
+    requires { at + N ≤ length s.now }
+    ensures { (i : ℕ) → i < N → get_or result i 0 ≡ get_or s.now (at + i) 0 }
 {
-    if s.len() <= at {
-        return 0;
+    *s[at..at + N].as_array().unwrap()
+}
+
+// The N bytes from an offset on, which the end may cut. By itself, so that where all bytes are there nothing but their place is asked.
+#[inline(never)]
+fn bytes_cut<const N: usize>(s: &[u8], at: usize) -> [u8; N]
+    ensures { (i : ℕ) → i < N → get_or result i 0 ≡ get_or s.now (at + i) 0 }
+{
+    let rest = &s[at.min(s.len())..];
+    let n = rest.len().min(N);
+    let mut bytes = [0; N];
+    bytes[..n].copy_from_slice(&rest[..n]);
+    bytes
+}
+
+fn bytes_at<const N: usize>(s: &[u8], at: usize) -> [u8; N]
+    ensures { (i : ℕ) → i < N → get_or result i 0 ≡ get_or s.now (at + i) 0 }
+{
+    if at < s.len() && N <= s.len() - at {
+        return bytes_inside(s, at);
     }
-    wide(s[at]) + 256 * wide(byte_at(s, at + 1))
+    bytes_cut(s, at)
 }
 
-// A number that the end of the bytes may cut.
-fn u32_cut(s: &[u8], at: usize) -> u64
-    requires { at < length s.now }
-    ensures { (result ≡ u32_at s.now at) × (result < 2 ^ 32) }
+#[tactic(auto, using(crate::proofs::Read::u16_read))]
+pub fn u16_at(s: &[u8], at: usize) -> u16
+    ensures { result ≡ u16_at s.now at }
 {
-    wide(s[at])
-        + 256 * wide(byte_at(s, at + 1))
-        + 65536 * wide(byte_at(s, at + 2))
-        + 16777216 * wide(byte_at(s, at + 3))
+    u16::from_le_bytes(bytes_at(s, at))
 }
 
-// A number whose bytes are all there: none is asked for its place.
-pub fn u32_inside(s: &[u8], at: usize) -> u64
+#[tactic(auto, using(crate::proofs::Read::u32_read))]
+pub fn u32_at(s: &[u8], at: usize) -> u32
+    ensures { result ≡ u32_at s.now at }
+{
+    u32::from_le_bytes(bytes_at(s, at))
+}
+
+#[tactic(auto, using(crate::proofs::Read::u32_read))]
+pub fn u32_inside(s: &[u8], at: usize) -> u32
     requires { at + 4 ≤ length s.now }
-    ensures { (result ≡ u32_at s.now at) × (result < 2 ^ 32) }
+    ensures { result ≡ u32_at s.now at }
 {
-    wide(s[at]) + 256 * wide(s[at + 1]) + 65536 * wide(s[at + 2]) + 16777216 * wide(s[at + 3])
+    u32::from_le_bytes(bytes_inside(s, at))
 }
 
-pub fn u32_at(s: &[u8], at: usize) -> u64
-    ensures { (result ≡ u32_at s.now at) × (result < 2 ^ 32) }
-{
-    if s.len() <= at {
-        return 0;
-    }
-    if s.len() - at < 4 {
-        return u32_cut(s, at);
-    }
-    u32_inside(s, at)
-}
-
-fn u64_cut(s: &[u8], at: usize) -> u64
-    requires { at < length s.now }
+#[tactic(auto, using(crate::proofs::Read::u64_read))]
+pub fn u64_at(s: &[u8], at: usize) -> u64
     ensures { result ≡ u64_at s.now at }
 {
-    u32_at(s, at) + 4294967296 * u32_at(s, at + 4)
+    u64::from_le_bytes(bytes_at(s, at))
 }
 
+#[tactic(auto, using(crate::proofs::Read::u64_read))]
 pub fn u64_inside(s: &[u8], at: usize) -> u64
     requires { at + 8 ≤ length s.now }
     ensures { result ≡ u64_at s.now at }
 {
-    u32_inside(s, at) + 4294967296 * u32_inside(s, at + 4)
+    u64::from_le_bytes(bytes_inside(s, at))
 }
 
-pub fn u64_at(s: &[u8], at: usize) -> u64
-    ensures { result ≡ u64_at s.now at }
-{
-    if s.len() <= at {
-        return 0;
-    }
-    if s.len() - at < 8 {
-        return u64_cut(s, at);
-    }
-    u64_inside(s, at)
-}
-
-// Whether a pattern is a finite f64's: its exponent is not all ones.
+// Whether a pattern is a finite f64's: its exponent is not all ones. std's `is_finite` asks a float, and no float is made of a pattern that may be a NaN's.
 pub fn finite64(bits: u64) -> bool
     ensures { result ≡ finite (of_bits binary64 bits) }
 {
@@ -102,9 +96,12 @@ pub fn finite32(bits: u32) -> bool
     bits % 0x8000_0000 < 0x7f80_0000
 }
 
-fn value64(bits: u64) -> f64
-    ensures { result ≡ finite_or binary64 bits }
+// What reads f32 stays beside what reads f64: std has their patterns at each type by itself, and a trait over both would need four members at each for what
+// are functions of one line.
+pub fn f64_at(s: &[u8], at: usize) -> f64
+    ensures { result ≡ f64_at s.now at }
 {
+    let bits = u64_at(s, at);
     if finite64(bits) {
         f64::from_bits(bits)
     } else {
@@ -112,26 +109,15 @@ fn value64(bits: u64) -> f64
     }
 }
 
-fn value32(bits: u32) -> f32
-    ensures { result ≡ finite_or binary32 bits }
+pub fn f32_at(s: &[u8], at: usize) -> f32
+    ensures { result ≡ f32_at s.now at }
 {
+    let bits = u32_at(s, at);
     if finite32(bits) {
         f32::from_bits(bits)
     } else {
         0.0
     }
-}
-
-pub fn f64_at(s: &[u8], at: usize) -> f64
-    ensures { result ≡ f64_at s.now at }
-{
-    value64(u64_at(s, at))
-}
-
-pub fn f32_at(s: &[u8], at: usize) -> f32
-    ensures { result ≡ f32_at s.now at }
-{
-    value32(u32_at(s, at) as u32)
 }
 
 // Whether the f64 at an offset is finite.
@@ -146,7 +132,7 @@ pub fn finite32_inside(s: &[u8], at: usize) -> bool
     requires { at + 4 ≤ length s.now }
     ensures { result ≡ finite (of_bits binary32 (u32_at s.now at)) }
 {
-    finite32(u32_inside(s, at) as u32)
+    finite32(u32_inside(s, at))
 }
 
 // A float that was found to be finite: it is not tested again.
@@ -157,84 +143,19 @@ pub fn f64_inside(s: &[u8], at: usize) -> f64
     f64::from_bits(u64_inside(s, at))
 }
 
-// True only where the 32 bytes from p on are those from q on, compared as four numbers.
-fn same_block(s: &[u8], p: usize, q: usize) -> bool
-    requires { (p + 32 ≤ length s.now) × (q + 32 ≤ length s.now) }
-    ensures { result ≡ true → SameBytes s.now p q 32 }
-{
-    if u64_inside(s, p) == u64_inside(s, q) {
-        if u64_inside(s, p + 8) == u64_inside(s, q + 8) {
-            if u64_inside(s, p + 16) == u64_inside(s, q + 16) {
-                return u64_inside(s, p + 24) == u64_inside(s, q + 24);
-            }
-        }
-    }
-    false
-}
-
-// True only where the n bytes from p on are those from q on: compared in blocks, then eight at a time. The last eight are compared
-// even if some of them were, for that takes one step where up to seven bytes by themselves take seven.
+// True only where the n bytes from p on are those from q on. A row of eight or more, short of 128, is compared eight at a time, and the last eight even if
+// some of them were: std's `==` takes a third longer there where n is known when this is compiled (45 bytes: 7.8 ns, not 5.8), and half as long past it.
 pub fn same_bytes(s: &[u8], p: usize, q: usize, n: usize) -> bool
     requires { (p + n ≤ length s.now) × (q + n ≤ length s.now) }
     ensures { result ≡ true → SameBytes s.now p q n }
 {
-    let mut i = p;
-    let mut j = q;
-    let mut left = n;
-    while 32 <= left {
-        if same_block(s, i, j) {
-            i += 32;
-            j += 32;
-            left -= 32;
-        } else {
+    if n < 8 || 128 <= n {
+        return s[p..p + n] == s[q..q + n];
+    }
+    for k in 0..n / 8 {
+        if u64_inside(s, p + 8 * k) != u64_inside(s, q + 8 * k) {
             return false;
         }
     }
-    if same_words(s, i, j, left) {
-        if n < 8 {
-            return same_tail(s, p, q, n);
-        }
-        return u64_inside(s, p + (n - 8)) == u64_inside(s, q + (n - 8));
-    }
-    false
-}
-
-// The same, eight bytes at a time, but for the last seven.
-fn same_words(s: &[u8], p: usize, q: usize, n: usize) -> bool
-    requires { (p + n ≤ length s.now) × (q + n ≤ length s.now) }
-    ensures { result ≡ true → SameBytes s.now p q (n - 7) }
-{
-    let mut i = p;
-    let mut j = q;
-    let mut left = n;
-    while 8 <= left {
-        if u64_inside(s, i) == u64_inside(s, j) {
-            i += 8;
-            j += 8;
-            left -= 8;
-        } else {
-            return false;
-        }
-    }
-    true
-}
-
-// The same, byte by byte.
-fn same_tail(s: &[u8], p: usize, q: usize, n: usize) -> bool
-    requires { (p + n ≤ length s.now) × (q + n ≤ length s.now) }
-    ensures { result ≡ true → SameBytes s.now p q n }
-{
-    let mut i = p;
-    let mut j = q;
-    let mut left = n;
-    while 0 < left {
-        if s[i] == s[j] {
-            i += 1;
-            j += 1;
-            left -= 1;
-        } else {
-            return false;
-        }
-    }
-    true
+    u64_inside(s, p + (n - 8)) == u64_inside(s, q + (n - 8))
 }

@@ -47,7 +47,7 @@ fn finite_from(s: &[u8], at: usize, n: usize) -> bool
 fn finite_f32(s: &[u8], at: usize) -> bool
     ensures { result ≡ Operands.finite_f32 s.now at }
 {
-    little_endian::finite32(little_endian::u32_at(s, at) as u32)
+    little_endian::finite32(little_endian::u32_at(s, at))
 }
 
 #[tactic(auto, unfolding(crate::specs::Operands::finite_stroke))]

@@ -106,7 +106,7 @@ fn take_words(call: &[u8], words: &mut [u32]) -> usize
 {
     let n = frame_drafts::lesser((call.len() - 17) / 4, words.len());
     for i in 0..n {
-        words[i] = little_endian::u32_at(call, 17 + 4 * i) as u32;
+        words[i] = little_endian::u32_at(call, 17 + 4 * i);
     }
     n
 }
@@ -127,10 +127,10 @@ fn answer_candidates(
         rt,
         out,
         at,
-        little_endian::u32_at(call, 1) as u32,
-        little_endian::u32_at(call, 5) as u32,
-        little_endian::u32_at(call, 9) as u32,
-        little_endian::u32_at(call, 13) as u32,
+        little_endian::u32_at(call, 1),
+        little_endian::u32_at(call, 5),
+        little_endian::u32_at(call, 9),
+        little_endian::u32_at(call, 13),
         &words[..n],
     )
 }

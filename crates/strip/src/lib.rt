@@ -267,7 +267,7 @@ fn announced(s: &[u8], at: usize, b: u8) -> u64
     ensures { result ≡ Steps.announced s.now at b }
 {
     if b == 5 {
-        little_endian::u16_at(s, at + 101)
+        u64::from(little_endian::u16_at(s, at + 101))
     } else {
         0
     }

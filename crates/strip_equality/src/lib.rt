@@ -11,7 +11,7 @@ ghost use Rattle.equality.specs.Drawings.{same_drawing};
 ghost use Rattle.strip_format.specs.Format.{rect_at, affine_at, fill_at, stroke_path_at, scene_at, command_at};
 ghost use Rattle.strip_equality.specs.Places.{same_path_at};
 
-use operand_equality::{both, stroke_eq};
+use operand_equality::stroke_eq;
 use strip_format::stroke_at;
 
 // Whether the f64 at two offsets are equal. Most have the same bits, and what is decoded is finite, so it equals itself.
@@ -26,6 +26,7 @@ fn same_f64(s: &[u8], p: usize, q: usize) -> bool
 }
 
 // Whether the boxes at two offsets are equal. Most have the same bytes, and then no edge is looked at by itself; so with affines.
+#[tactic(auto, unfolding(geometry::specs::Boxes::same_edges))]
 fn same_rect(s: &[u8], p: usize, q: usize) -> bool
     requires { (p + 32 ≤ length s.now) × (q + 32 ≤ length s.now) }
     ensures { result ≡ same_edges (rect_at s.now p) (rect_at s.now q) }
@@ -33,13 +34,13 @@ fn same_rect(s: &[u8], p: usize, q: usize) -> bool
     if little_endian::same_bytes(s, p, q, 32) {
         return true;
     }
-    let left = same_f64(s, p, q);
-    let top = same_f64(s, p + 8, q + 8);
-    let right = same_f64(s, p + 16, q + 16);
-    let bottom = same_f64(s, p + 24, q + 24);
-    both(both(both(left, top), right), bottom)
+    same_f64(s, p, q)
+        && same_f64(s, p + 8, q + 8)
+        && same_f64(s, p + 16, q + 16)
+        && same_f64(s, p + 24, q + 24)
 }
 
+#[tactic(auto, unfolding(operand_equality::specs::Operands::same_affine))]
 fn same_affine(s: &[u8], p: usize, q: usize) -> bool
     requires { (p + 48 ≤ length s.now) × (q + 48 ≤ length s.now) }
     ensures { result ≡ same_affine (affine_at s.now p) (affine_at s.now q) }
@@ -47,47 +48,44 @@ fn same_affine(s: &[u8], p: usize, q: usize) -> bool
     if little_endian::same_bytes(s, p, q, 48) {
         return true;
     }
-    let across = both(same_f64(s, p, q), same_f64(s, p + 8, q + 8));
-    let down = both(same_f64(s, p + 16, q + 16), same_f64(s, p + 24, q + 24));
-    let moved = both(same_f64(s, p + 32, q + 32), same_f64(s, p + 40, q + 40));
-    both(both(across, down), moved)
+    same_f64(s, p, q)
+        && same_f64(s, p + 8, q + 8)
+        && same_f64(s, p + 16, q + 16)
+        && same_f64(s, p + 24, q + 24)
+        && same_f64(s, p + 32, q + 32)
+        && same_f64(s, p + 40, q + 40)
 }
 
 // The operands that a FILL and a STROKE share. The numbers come first: where they differ no float is looked at.
+#[tactic(auto, unfolding(operand_equality::specs::Operands::same_path))]
 fn same_path(s: &[u8], p: usize, q: usize) -> bool
     requires { (p + 97 ≤ length s.now) × (q + 97 ≤ length s.now) }
     ensures { result ≡ same_path_at s.now p q }
 {
-    if little_endian::u64_inside(s, p + 1) == little_endian::u64_inside(s, q + 1) {
-        if little_endian::u64_inside(s, p + 89) == little_endian::u64_inside(s, q + 89) {
-            return both(same_rect(s, p + 9, q + 9), same_affine(s, p + 41, q + 41));
-        }
-    }
-    false
+    little_endian::u64_inside(s, p + 1) == little_endian::u64_inside(s, q + 1)
+        && little_endian::u64_inside(s, p + 89) == little_endian::u64_inside(s, q + 89)
+        && same_rect(s, p + 9, q + 9)
+        && same_affine(s, p + 41, q + 41)
 }
 
+#[tactic(auto, unfolding(equality::specs::Drawings::same_drawing, equality::specs::Drawings::same_stroked))]
 fn same_stroked(s: &[u8], p: usize, q: usize) -> bool
     requires { (p + 124 ≤ length s.now) × (q + 124 ≤ length s.now) }
     ensures { result ≡ same_drawing (stroke_path_at s.now p) (stroke_path_at s.now q) }
 {
-    if same_path(s, p, q) {
-        return stroke_eq(stroke_at(s, p + 97), stroke_at(s, q + 97));
-    }
-    false
+    same_path(s, p, q) && stroke_eq(stroke_at(s, p + 97), stroke_at(s, q + 97))
 }
 
+#[tactic(auto, unfolding(equality::specs::Drawings::same_drawing, equality::specs::Drawings::same_scene))]
 fn same_scene(s: &[u8], p: usize, q: usize) -> bool
     requires { (p + 105 ≤ length s.now) × (q + 105 ≤ length s.now) }
     ensures { result ≡ same_drawing (scene_at s.now p) (scene_at s.now q) }
 {
-    if little_endian::u64_inside(s, p + 1) == little_endian::u64_inside(s, q + 1) {
-        if little_endian::u64_inside(s, p + 9) == little_endian::u64_inside(s, q + 9) {
-            if little_endian::u64_inside(s, p + 17) == little_endian::u64_inside(s, q + 17) {
-                return both(same_affine(s, p + 25, q + 25), same_rect(s, p + 73, q + 73));
-            }
-        }
-    }
-    false
+    little_endian::u64_inside(s, p + 1) == little_endian::u64_inside(s, q + 1)
+        && little_endian::u64_inside(s, p + 9) == little_endian::u64_inside(s, q + 9)
+        && little_endian::u64_inside(s, p + 17) == little_endian::u64_inside(s, q + 17)
+        && same_affine(s, p + 25, q + 25)
+        && same_rect(s, p + 73, q + 73)
 }
 
 fn same_decoded(s: &[u8], p: usize, q: usize) -> bool

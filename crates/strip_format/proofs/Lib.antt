@@ -5,4 +5,4 @@ pub mod Commands
 pub mod Past
 pub mod Alike
 pub mod Numbers
-mod Finite
+mod Floats

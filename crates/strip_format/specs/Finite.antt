@@ -1,11 +1,19 @@
 -- Floats in bytes that were found to be finite, or far from infinite.
-use Rattle.std.specs.Prelude.{◌≡◌, true, List, ℕ, ◌+◌, ◌*◌, ◌%◌, ◌^◌, ◌<◌}
+use Rattle.std.specs.Prelude.{◌≡◌, true, List, ℕ, ◌+◌, ◌*◌, ◌%◌, ◌^◌, ◌<◌, Float, get_or}
 use Rattle.std.specs.Float.{binary64}
 use Rattle.std.specs.Float.Ieee.{of_bits}
 use Rattle.std.specs.Float.Ieee.Scale.{finite}
-use Rattle.little_endian.specs.Words.{u64_at}
+use Rattle.little_endian.specs.Words.{u64_at, f64_at}
 
--- the four f64 from an offset on are
+-- the n f64 from an offset on are
+unfoldable pub AllFinite : List ℕ → ℕ → ℕ → Type 0
+AllFinite s at n = (i : ℕ) → i < n → finite (of_bits binary64 (u64_at s (at + 8 * i))) ≡ true
+
+-- the n f64 from an offset on are these
+unfoldable pub FloatsFrom : List ℕ → ℕ → ℕ → List Float → Type 0
+FloatsFrom s at n xs = (i : ℕ) (d : Float) → i < n → get_or xs i d ≡ f64_at s (at + 8 * i)
+
+-- four of them are finite
 pub record FourFinite (s : List ℕ) (at : ℕ) : Type 0 where
   pub first : finite (of_bits binary64 (u64_at s at)) ≡ true
   pub second : finite (of_bits binary64 (u64_at s (at + 8))) ≡ true

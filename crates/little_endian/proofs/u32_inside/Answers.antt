@@ -1,7 +1,0 @@
-use Rattle.little_endian.specs.Words.{u32_at}
-use borrow.Author.Rules.{rules}
-use Rattle.little_endian.proofs.u32_inside.Goals as goal
-
-pub returns : goal.returns
-unfolding u32_at
-returns c = search rules
