@@ -91,7 +91,8 @@ impl Space {
 
     // The plan of a first frame, or its refusal.
     pub fn plan_first(&mut self, input: &[u8]) -> Plan
-        ensures { result ≡ answer_of (lent_of (slices_of self.old)) (first_outcome input.now) }
+        ensures answer { result ≡ answer_of (lent_of (slices_of self.old)) (first_outcome input.now) }
+        ensures space { lent_of (slices_of self.new) ≡ lent_of (slices_of self.old) }
     {
         planner::plan_first(
             input,
@@ -113,7 +114,8 @@ impl Space {
 
     // The plan of a frame after another, or its refusal.
     pub fn plan_next(&mut self, input: &[u8]) -> Plan
-        ensures { result ≡ answer_of (lent_of (slices_of self.old)) (next_outcome input.now) }
+        ensures answer { result ≡ answer_of (lent_of (slices_of self.old)) (next_outcome input.now) }
+        ensures space { lent_of (slices_of self.new) ≡ lent_of (slices_of self.old) }
     {
         planner::plan_next(
             input,
@@ -135,7 +137,8 @@ impl Space {
 
     // What the entry answers.
     pub fn plan(&mut self, entry: Entry, input: &[u8]) -> Plan
-        ensures { result ≡ answer_of (lent_of (slices_of self.old)) (outcome entry input.now) }
+        ensures answer { result ≡ answer_of (lent_of (slices_of self.old)) (outcome entry input.now) }
+        ensures space { lent_of (slices_of self.new) ≡ lent_of (slices_of self.old) }
     {
         match entry {
             Entry::First => self.plan_first(input),

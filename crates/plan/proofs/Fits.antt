@@ -1,8 +1,9 @@
 -- What an accepted plan counts fits the space lent, so that the program may read so far. Assumes nothing.
-use mathlib.Core.Path.{◌≡◌, sym, ◌∙◌, subst}
+use mathlib.Core.Path.{◌≡◌, refl, sym, ◌∙◌, subst, ap}
 use mathlib.Core.Bool.{Bool, true, ◌&&◌}
 use Prim.Native.Nat.{ℕ, ◌≤◌}
 use lib.Dec.{leb}
+use Rattle.std.specs.Prelude.{◌*◌, ◌/◌, min}
 use lib.ListN.{length}
 use lib.Ieee.Fits.{and_l, and_r}
 use borrow.Author.Tests.{leb-true}
@@ -13,12 +14,8 @@ use Rattle.runtime.specs.declared.FrameWork.{FrameWork}
 use Rattle.plans.specs.declared.Plan.{Plan}
 use Rattle.plans.specs.declared.Plan.TheVariants.{Planned, Refused}
 use Rattle.plans.specs.Drafts.{Draft, Outcome, turned, drafted}
-use Rattle.plans.specs.Space.{Lent}
+use Rattle.plans.specs.Space.{Lent, Slices, lent_of}
 use Rattle.plans.specs.Answers.{items_fit, draft_fits, counts, answer_of}
-
--- what the program lends
-abbrev pub lent : Lent
-lent = record { commands = 1024; glyphs = 2048; clips = 2048; rects = 2048; regions = 4096; words = 16384 }
 
 -- how many regions and index words an answer counts, none where it is refused
 abbrev regions_in : Plan → ℕ
@@ -53,3 +50,20 @@ pub planned_fits :
     (z : Lent) (o : Outcome) (r : Plan) (n c : ℕ) (w : FrameWork) → r ≡ answer_of z o → r ≡ Planned n c w → (w.regions_transferred ≤ z.regions) × (c ≤ z.words)
 unfolding Fitting
 planned_fits z o r n c w e f = subst (Fitting z) (sym e ∙ f) (answer_fits z o)
+
+min_left : (k m n : ℕ) → k ≤ min m n → k ≤ m
+min_left k m n h = omega (arith, h)
+
+-- the space before the call is s, and behind it t, which has as much room
+pub regions_fit :
+    (s t : Slices) (o : Outcome) (n c : ℕ) (w : FrameWork) → Planned n c w ≡ answer_of (lent_of s) o → lent_of t ≡ lent_of s → 4 * w.regions_transferred ≤ length t.regions
+regions_fit s t o n c w e same =
+    let fits : w.regions_transferred ≤ (lent_of t).regions = subst (λ z. w.regions_transferred ≤ z.regions) (sym same) (planned_fits (lent_of s) o (Planned n c w) n c w e refl).0 in
+    let words : w.regions_transferred ≤ length t.regions / 4 = min_left _ (length t.regions / 4) (length t.draft_regions / 4) fits in
+    omega (arith, words)
+
+pub words_fit :
+    (s t : Slices) (o : Outcome) (n c : ℕ) (w : FrameWork) → Planned n c w ≡ answer_of (lent_of s) o → lent_of t ≡ lent_of s → c ≤ length t.words
+words_fit s t o n c w e same =
+    min_left c (length t.words) (length t.draft_words)
+    (subst (λ z. c ≤ z.words) (sym same) (planned_fits (lent_of s) o (Planned n c w) n c w e refl).1)
