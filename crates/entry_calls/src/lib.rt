@@ -2,7 +2,7 @@
 #![tactic(auto)]
 
 ghost use Rattle.std.specs.Prelude.{◌≡◌, IfOk};
-ghost use Rattle.plans.specs.Answers.{answer_of};
+ghost use Rattle.plans.specs.Answers.{answer_of, index_words, published, rect_words, region_words};
 ghost use Rattle.plans.specs.Drafts.{first_outcome, next_outcome};
 ghost use Rattle.plans.specs.Space.{lent_of};
 ghost use Rattle.entry_calls.specs.Lending.{at_most, lent, outcome, slices_of};
@@ -11,14 +11,14 @@ use plans::Plan;
 use std::alloc::{AllocError, Global};
 
 // Which of the two entries is called.
-#[derive(Clone, Copy, Debug, PartialEq, Eq)]
+#[derive(Clone, Copy)]
 pub enum Entry {
     First,
     Next,
 }
 
 // How many items of each kind are lent.
-#[derive(Clone, Copy, Debug, PartialEq, Eq)]
+#[derive(Clone, Copy)]
 pub struct Limits {
     pub commands: u32,
     pub glyphs: u32,
@@ -89,9 +89,13 @@ impl Space {
         })
     }
 
-    // The plan of a first frame, or its refusal.
+    // The plan of a first frame, or its refusal. The two entries are called in two places: as one parameter, a function over
+    // fourteen slices would have to say all that an entry promises once more.
     pub fn plan_first(&mut self, input: &[u8]) -> Plan
         ensures answer { result ≡ answer_of (lent_of (slices_of self.old)) (first_outcome input.now) }
+        ensures rectangles { self.new.rects.items ≡ published result (rect_words (first_outcome input.now)) self.old.rects.items }
+        ensures scheduled { self.new.regions.items ≡ published result (region_words (first_outcome input.now)) self.old.regions.items }
+        ensures index { self.new.words.items ≡ published result (index_words (first_outcome input.now)) self.old.words.items }
         ensures space { lent_of (slices_of self.new) ≡ lent_of (slices_of self.old) }
     {
         planner::plan_first(
@@ -115,6 +119,9 @@ impl Space {
     // The plan of a frame after another, or its refusal.
     pub fn plan_next(&mut self, input: &[u8]) -> Plan
         ensures answer { result ≡ answer_of (lent_of (slices_of self.old)) (next_outcome input.now) }
+        ensures rectangles { self.new.rects.items ≡ published result (rect_words (next_outcome input.now)) self.old.rects.items }
+        ensures scheduled { self.new.regions.items ≡ published result (region_words (next_outcome input.now)) self.old.regions.items }
+        ensures index { self.new.words.items ≡ published result (index_words (next_outcome input.now)) self.old.words.items }
         ensures space { lent_of (slices_of self.new) ≡ lent_of (slices_of self.old) }
     {
         planner::plan_next(
@@ -138,6 +145,9 @@ impl Space {
     // What the entry answers.
     pub fn plan(&mut self, entry: Entry, input: &[u8]) -> Plan
         ensures answer { result ≡ answer_of (lent_of (slices_of self.old)) (outcome entry input.now) }
+        ensures rectangles { self.new.rects.items ≡ published result (rect_words (outcome entry input.now)) self.old.rects.items }
+        ensures scheduled { self.new.regions.items ≡ published result (region_words (outcome entry input.now)) self.old.regions.items }
+        ensures index { self.new.words.items ≡ published result (index_words (outcome entry input.now)) self.old.words.items }
         ensures space { lent_of (slices_of self.new) ≡ lent_of (slices_of self.old) }
     {
         match entry {

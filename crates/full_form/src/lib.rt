@@ -7,9 +7,8 @@ use frame::{First, Header, Pair};
 use plans::Plan;
 use printing::{Numbers, Refusal, Totals};
 use runtime::FrameWork;
-use std::fmt;
-use std::io;
 use std::io::Write;
+use std::{fmt, io};
 use strip::Cursor;
 
 // The bits of an edge, a zero without its sign: only that sign is open.
@@ -127,10 +126,16 @@ fn write_plan(
         pixels_transferred: pixels,
         regions_transferred: regions,
     } = work;
-    writeln!(out, "accepted\ncommands {commands_emitted}\nrectangles {rects}")?;
+    writeln!(
+        out,
+        "accepted\ncommands {commands_emitted}\nrectangles {rects}"
+    )?;
     write_rects(out, front(&space.rects, rects.saturating_mul(4)))?;
     writeln!(out, "{}", Totals { regions, pixels })?;
-    write_regions(out, front(&space.regions, (regions as usize).saturating_mul(4)))?;
+    write_regions(
+        out,
+        front(&space.regions, (regions as usize).saturating_mul(4)),
+    )?;
     if let Some(starts) = start_count(input) {
         writeln!(out, "words {words}")?;
         write_index(out, starts, front(&space.words, words))?;
@@ -142,7 +147,10 @@ fn write_plan(
             glyphs,
             clips,
         } = items;
-        writeln!(out, "space {commands} {glyphs} {clips} {rects} {regions} {words}")?;
+        writeln!(
+            out,
+            "space {commands} {glyphs} {clips} {rects} {regions} {words}"
+        )?;
     }
     Ok(())
 }
@@ -174,7 +182,14 @@ pub fn write_candidates(
 ) -> io::Result<()> {
     let number = candidates::refusal(width, height, band_height, y, words);
     if number != 0 {
-        return writeln!(out, "{}", Refusal { number, position: 0 });
+        return writeln!(
+            out,
+            "{}",
+            Refusal {
+                number,
+                position: 0
+            }
+        );
     }
     let row = candidates::candidates(width, height, band_height, y, words);
     writeln!(out, "draw{}", Numbers(row))

@@ -63,7 +63,14 @@ fn write_planned(
     requires words { words ≤ vec_len space.now.words }
 {
     let regions = &space.regions[..4 * work.regions_transferred as usize];
-    write_plan(out, input, rects, regions, &space.words[..words], work.pixels_transferred)
+    write_plan(
+        out,
+        input,
+        rects,
+        regions,
+        &space.words[..words],
+        work.pixels_transferred,
+    )
 }
 
 fn answer(out: &mut impl Write, space: &mut Space, input: &[u8]) -> io::Result<()> {

@@ -50,7 +50,11 @@ fn read_call<'a>(
 ) -> io::Result<Option<&'a [u8]>> {
     let mut length = [0u8; 4];
     if let Err(error) = input.read_exact(&mut length) {
-        return if has_ended(&error) { Ok(None) } else { Err(error) };
+        return if has_ended(&error) {
+            Ok(None)
+        } else {
+            Err(error)
+        };
     }
     let length = u32::from_le_bytes(length) as usize;
     if length == 0 {
@@ -75,12 +79,7 @@ fn u32_at(bytes: &[u8], at: usize) -> u32 {
 }
 
 // A frame: six words that say how much space is lent, then the entry's input.
-fn answer_frame(
-    out: &mut impl Write,
-    alloc: Global,
-    entry: Entry,
-    call: &[u8],
-) -> io::Result<()> {
+fn answer_frame(out: &mut impl Write, alloc: Global, entry: Entry, call: &[u8]) -> io::Result<()> {
     let Some((lent, input)) = call.split_at_checked(24) else {
         return writeln!(out, "the space lent is cut off");
     };
