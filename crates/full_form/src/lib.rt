@@ -2,6 +2,11 @@
 // here: what it counts past the words given is left out, so that a wrong count shows as a difference of the text.
 #![tactic(auto)]
 
+ghost use Rattle.std.specs.Prelude.{OnOk, IfSome};
+ghost use Rattle.std.specs.Io.KnownBytes.{Appends};
+ghost use Rattle.candidates.specs.Table.{candidates, refusal};
+ghost use Rattle.full_form.specs.Texts.{refused_line, row_line};
+
 use entry_calls::{Entry, Space};
 use frame::{First, Header, Pair};
 use plans::Plan;
@@ -156,13 +161,15 @@ fn write_plan(
 }
 
 // The answer of an entry, whose plan stands in the space.
-pub fn write_answer(
-    out: &mut impl Write,
+pub fn write_answer<W: Write>(
+    out: &mut W,
     entry: Entry,
     input: &[u8],
     plan: Plan,
     space: &Space,
-) -> io::Result<()> {
+) -> io::Result<()>
+    ensures { OnOk result (IfSome (refused_line plan) (Appends (W.contents out.old) (W.contents out.new))) }
+{
     match plan {
         Plan::Planned(rects, words, work) => {
             write_plan(out, entry, input, rects, words, work, space)
@@ -172,14 +179,16 @@ pub fn write_answer(
 }
 
 // The answer of `candidates`.
-pub fn write_candidates(
-    out: &mut impl Write,
+pub fn write_candidates<W: Write>(
+    out: &mut W,
     width: u32,
     height: u32,
     band_height: u32,
     y: u32,
     words: &[u32],
-) -> io::Result<()> {
+) -> io::Result<()>
+    ensures { OnOk result (Appends (W.contents out.old) (W.contents out.new) (row_line (refusal width height band_height y words.now) (candidates width height band_height y words.now))) }
+{
     let number = candidates::refusal(width, height, band_height, y, words);
     if number != 0 {
         return writeln!(
