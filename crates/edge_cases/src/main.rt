@@ -5,32 +5,26 @@ use device::DeviceRegion;
 use geometry::Rect;
 use std::io;
 
-fn print_number(rt: &impl Print, n: u32) -> io::Result<()> {
-    print!(rt; " {n}")
-}
-
 // A region by its numbers, or the word nothing.
-fn print_converted(rt: &impl Print, name: &[u8], answer: Option<DeviceRegion>) -> io::Result<()> {
-    rt.write_all(name)?;
+fn print_converted(rt: &impl Print, name: &str, answer: Option<DeviceRegion>) -> io::Result<()> {
     match answer {
-        Some(r) => {
-            print_number(rt, r.x)?;
-            print_number(rt, r.y)?;
-            print_number(rt, r.width)?;
-            print_number(rt, r.height)?;
+        Some(region) => {
+            let DeviceRegion {
+                x,
+                y,
+                width,
+                height,
+            } = region;
+            println!(rt; "{name} {x} {y} {width} {height}")
         }
-        None => {
-            rt.write_all(b" nothing")?;
-        }
+        None => println!(rt; "{name} nothing"),
     }
-    rt.write_all(b"\n")
 }
 
-fn print_rows(rt: &impl Print, name: &[u8], y0: f64, y1: f64) -> io::Result<()> {
-    rt.write_all(name)?;
-    print_number(rt, rows::row_of(y0, 16, 3))?;
-    print_number(rt, rows::final_row(y1, 16, 3))?;
-    rt.write_all(b"\n")
+fn print_rows(rt: &impl Print, name: &str, y0: f64, y1: f64) -> io::Result<()> {
+    let first = rows::row_of(y0, 16, 3);
+    let last = rows::final_row(y1, 16, 3);
+    println!(rt; "{name} {first} {last}")
 }
 
 fn main(rt: HostRuntime) -> io::Result<()> {
@@ -42,7 +36,7 @@ fn main(rt: HostRuntime) -> io::Result<()> {
     };
     print_converted(
         &rt,
-        b"(-1.5, 2.25, 3.5, 4) on 8 by 8:",
+        "(-1.5, 2.25, 3.5, 4) on 8 by 8:",
         DeviceRegion::from_logical(outward, 8, 8),
     )?;
     let narrow = Rect {
@@ -53,16 +47,16 @@ fn main(rt: HostRuntime) -> io::Result<()> {
     };
     print_converted(
         &rt,
-        b"(3, 3, 3, 5) on 8 by 8:",
+        "(3, 3, 3, 5) on 8 by 8:",
         DeviceRegion::from_logical(narrow, 8, 8),
     )?;
-    print_rows(&rt, b"rows of y 0 to 16:", 0.0, 16.0)?;
+    print_rows(&rt, "rows of y 0 to 16:", 0.0, 16.0)?;
     print_rows(
         &rt,
-        b"rows of y 0 to the next f64 above 16:",
+        "rows of y 0 to the next f64 above 16:",
         0.0,
         16.000000000000004,
     )?;
-    print_rows(&rt, b"rows of y 100 to 120:", 100.0, 120.0)?;
-    print_rows(&rt, b"rows of y -8 to -2:", -8.0, -2.0)
+    print_rows(&rt, "rows of y 100 to 120:", 100.0, 120.0)?;
+    print_rows(&rt, "rows of y -8 to -2:", -8.0, -2.0)
 }

@@ -1,89 +1,159 @@
-// Calls of the planner's two entries: the entry that a call's first byte names, and how much of an array it is lent.
+// Calls of the planner's two entries with space of their own: `Space` holds the thirteen slices that an entry is lent.
 #![tactic(auto)]
 
-ghost use Rattle.std.specs.Prelude.{◌≤◌};
+ghost use Rattle.std.specs.Prelude.{◌≡◌, IfOk};
+ghost use Rattle.plans.specs.Answers.{answer_of, index_words, published, rect_words, region_words};
+ghost use Rattle.plans.specs.Drafts.{first_outcome, next_outcome};
+ghost use Rattle.plans.specs.Space.{lent_of};
+ghost use Rattle.entry_calls.specs.Lending.{at_most, lent, outcome, slices_of};
 
 use plans::Plan;
+use refusals::Refusal;
+use std::alloc::{AllocError, Global};
 
-// The first byte of a first frame's call; any other byte means a later frame.
-pub const FIRST: u8 = 1;
-
-// How many words of an array are lent: as many items as are named, if there are so many. An item is one word, or so many as
-// the function's name says.
-pub fn ones(items: usize, most: usize) -> usize
-    ensures { result ≤ most }
-{
-    if items < most { items } else { most }
+// Which of the two entries is called.
+#[derive(Clone, Copy)]
+pub enum Entry {
+    First,
+    Next,
 }
 
-pub fn pairs(items: usize, most: usize) -> usize
-    ensures { result ≤ most }
-{
-    2 * ones(items, most / 2)
+// How many items of each kind are lent.
+#[derive(Clone, Copy)]
+pub struct Limits {
+    pub commands: u32,
+    pub glyphs: u32,
+    pub clips: u32,
+    pub rectangles: u32,
+    pub regions: u32,
+    pub index_words: u32,
 }
 
-pub fn fours(items: usize, most: usize) -> usize
-    ensures { result ≤ most }
-{
-    4 * ones(items, most / 4)
-}
-
-pub fn eights(items: usize, most: usize) -> usize
-    ensures { result ≤ most }
-{
-    8 * ones(items, most / 8)
-}
-
-// What the entry answers. Nothing is said of it here, so that the caller carries no facts along.
-pub fn plan_entry(
-    entry: u8,
-    input: &[u8],
-    rects: &mut [f64],
-    regions: &mut [u32],
-    words: &mut [u32],
-    boxes: &mut [f64],
-    below: &mut [u64],
-    items: &mut [u64],
-    item_boxes: &mut [f64],
-    glyph_items: &mut [u64],
-    draft_rects: &mut [f64],
-    work: &mut [u64],
-    spare: &mut [u64],
-    draft_regions: &mut [u32],
-    draft_words: &mut [u32],
-) -> Plan {
-    if entry == FIRST {
-        return planner::plan_first(
-            input,
-            rects,
-            regions,
-            words,
-            boxes,
-            below,
-            items,
-            item_boxes,
-            glyph_items,
-            draft_rects,
-            work,
-            spare,
-            draft_regions,
-            draft_words,
-        );
+impl Limits {
+    // The same, but no more of any kind than there is.
+    pub fn at_most(self, most: Limits) -> Limits
+        ensures { result ≡ at_most self most }
+    {
+        Limits {
+            commands: self.commands.min(most.commands),
+            glyphs: self.glyphs.min(most.glyphs),
+            clips: self.clips.min(most.clips),
+            rectangles: self.rectangles.min(most.rectangles),
+            regions: self.regions.min(most.regions),
+            index_words: self.index_words.min(most.index_words),
+        }
     }
-    planner::plan_next(
-        input,
-        rects,
-        regions,
-        words,
-        boxes,
-        below,
-        items,
-        item_boxes,
-        glyph_items,
-        draft_rects,
-        work,
-        spare,
-        draft_regions,
-        draft_words,
-    )
+}
+
+// Space to lend: a call leaves its plan in `rects`, `regions` and `words`; the rest is scratch.
+#[derive(Drop)]
+pub struct Space {
+    pub rects: Vec<f64>,
+    pub regions: Vec<u32>,
+    pub words: Vec<u32>,
+    pub boxes: Vec<f64>,
+    pub below: Vec<u64>,
+    pub items: Vec<u64>,
+    pub item_boxes: Vec<f64>,
+    pub glyph_items: Vec<u64>,
+    pub draft_rects: Vec<f64>,
+    pub work: Vec<u64>,
+    pub spare: Vec<u64>,
+    pub draft_regions: Vec<u32>,
+    pub draft_words: Vec<u32>,
+}
+
+impl Space {
+    // Space for so many items of each kind.
+    pub fn new(alloc: Global, limits: Limits) -> Result<Space, AllocError>
+        ensures { IfOk result (λ space. lent_of (slices_of space) ≡ lent limits) }
+    {
+        let commands = limits.commands as usize;
+        let clips = limits.clips as usize;
+        let rectangles = limits.rectangles as usize;
+        let region_words = 4 * limits.regions as usize;
+        let index_words = limits.index_words as usize;
+        Ok(Space {
+            rects: vec![in alloc; 0.0; 4 * rectangles]?,
+            regions: vec![in alloc; 0; region_words]?,
+            words: vec![in alloc; 0; index_words]?,
+            boxes: vec![in alloc; 0.0; 8 * clips]?,
+            below: vec![in alloc; 0; clips]?,
+            items: vec![in alloc; 0; 2 * commands]?,
+            item_boxes: vec![in alloc; 0.0; 4 * commands]?,
+            glyph_items: vec![in alloc; 0; limits.glyphs as usize]?,
+            draft_rects: vec![in alloc; 0.0; 4 * rectangles]?,
+            work: vec![in alloc; 0; rectangles]?,
+            spare: vec![in alloc; 0; rectangles]?,
+            draft_regions: vec![in alloc; 0; region_words]?,
+            draft_words: vec![in alloc; 0; index_words]?,
+        })
+    }
+
+    // The plan of a first frame, or its refusal. The two entries are called in two places: as one parameter, a function over
+    // fourteen slices would have to say all that an entry promises once more.
+    pub fn plan_first(&mut self, input: &[u8]) -> Result<Plan, Refusal>
+        ensures answer { result ≡ answer_of (lent_of (slices_of self.old)) (first_outcome input.now) }
+        ensures rectangles { self.new.rects.items ≡ published result (rect_words (first_outcome input.now)) self.old.rects.items }
+        ensures scheduled { self.new.regions.items ≡ published result (region_words (first_outcome input.now)) self.old.regions.items }
+        ensures index { self.new.words.items ≡ published result (index_words (first_outcome input.now)) self.old.words.items }
+        ensures space { lent_of (slices_of self.new) ≡ lent_of (slices_of self.old) }
+    {
+        planner::plan_first(
+            input,
+            &mut self.rects,
+            &mut self.regions,
+            &mut self.words,
+            &mut self.boxes,
+            &mut self.below,
+            &mut self.items,
+            &mut self.item_boxes,
+            &mut self.glyph_items,
+            &mut self.draft_rects,
+            &mut self.work,
+            &mut self.spare,
+            &mut self.draft_regions,
+            &mut self.draft_words,
+        )
+    }
+
+    // The plan of a frame after another, or its refusal.
+    pub fn plan_next(&mut self, input: &[u8]) -> Result<Plan, Refusal>
+        ensures answer { result ≡ answer_of (lent_of (slices_of self.old)) (next_outcome input.now) }
+        ensures rectangles { self.new.rects.items ≡ published result (rect_words (next_outcome input.now)) self.old.rects.items }
+        ensures scheduled { self.new.regions.items ≡ published result (region_words (next_outcome input.now)) self.old.regions.items }
+        ensures index { self.new.words.items ≡ published result (index_words (next_outcome input.now)) self.old.words.items }
+        ensures space { lent_of (slices_of self.new) ≡ lent_of (slices_of self.old) }
+    {
+        planner::plan_next(
+            input,
+            &mut self.rects,
+            &mut self.regions,
+            &mut self.words,
+            &mut self.boxes,
+            &mut self.below,
+            &mut self.items,
+            &mut self.item_boxes,
+            &mut self.glyph_items,
+            &mut self.draft_rects,
+            &mut self.work,
+            &mut self.spare,
+            &mut self.draft_regions,
+            &mut self.draft_words,
+        )
+    }
+
+    // What the entry answers.
+    pub fn plan(&mut self, entry: Entry, input: &[u8]) -> Result<Plan, Refusal>
+        ensures answer { result ≡ answer_of (lent_of (slices_of self.old)) (outcome entry input.now) }
+        ensures rectangles { self.new.rects.items ≡ published result (rect_words (outcome entry input.now)) self.old.rects.items }
+        ensures scheduled { self.new.regions.items ≡ published result (region_words (outcome entry input.now)) self.old.regions.items }
+        ensures index { self.new.words.items ≡ published result (index_words (outcome entry input.now)) self.old.words.items }
+        ensures space { lent_of (slices_of self.new) ≡ lent_of (slices_of self.old) }
+    {
+        match entry {
+            Entry::First => self.plan_first(input),
+            Entry::Next => self.plan_next(input),
+        }
+    }
 }

@@ -1,304 +1,189 @@
 // Answers in the oracle's full form: everything that a call says, an edge as its bits. A plan is not taken at its word
-// here: what it counts past the words given is left out, so that a wrong count shows as a difference of the text. Each part
-// is written as `printing` does it, and hands up a write that fails.
+// here: what it counts past the words given is left out, so that a wrong count shows as a difference of the text.
 #![tactic(auto)]
 
-ghost use Rattle.std.specs.Prelude.{◌+◌, ◌*◌, ◌≤◌, length};
+ghost use Rattle.std.specs.Prelude.{OnOk, IfSome};
+ghost use Rattle.std.specs.Io.KnownBytes.{Appends};
+ghost use Rattle.candidates.specs.Table.{find};
+ghost use Rattle.full_form.specs.Texts.{refused_line, row_line};
 
-use frame::{First, Header, Pair};
+use entry_calls::{Entry, Space};
 use plans::Plan;
+use printing::{Numbers, Totals};
+use refusals::Refusal;
 use runtime::FrameWork;
-use std::io;
-
-fn lesser(a: usize, b: usize) -> usize
-    ensures { (result ≤ a) × (result ≤ b) }
-{
-    if a < b { a } else { b }
-}
+use std::io::Write;
+use std::{fmt, io};
+use strip::Cursor;
 
 // The bits of an edge, a zero without its sign: only that sign is open.
-fn put_edge(rt: &impl Print, out: &mut [u8; 4096], at: usize, edge: f64) -> io::Result<usize> {
-    if edge == 0.0 {
-        return printing::put_bits(rt, out, at, 0);
+#[derive(Clone, Copy)]
+struct Edge(f64);
+
+impl fmt::Display for Edge {
+    fn fmt<W: fmt::Write>(&self, f: &mut fmt::Formatter<W>) -> fmt::Result {
+        let edge = self.0;
+        if edge.is_nan() {
+            return write!(f, "no number");
+        }
+        let bits = if edge == 0.0 { 0 } else { edge.to_bits() };
+        write!(f, "{bits:016x}")
     }
-    if edge == edge {
-        return printing::put_bits(rt, out, at, f64::to_bits(edge));
-    }
-    printing::put(rt, out, at, b" no number")
 }
 
-fn put_rect(
-    rt: &impl Print,
-    out: &mut [u8; 4096],
-    at: usize,
-    rects: &[f64],
-    i: usize,
-) -> io::Result<usize>
-    requires { 4 * i + 4 ≤ length rects.now }
-{
-    let named = printing::put(rt, out, at, b"rectangle")?;
-    let left = put_edge(rt, out, named, rects[4 * i])?;
-    let top = put_edge(rt, out, left, rects[4 * i + 1])?;
-    let right = put_edge(rt, out, top, rects[4 * i + 2])?;
-    let bottom = put_edge(rt, out, right, rects[4 * i + 3])?;
-    printing::put_byte(rt, out, bottom, b'\n')
-}
-
-fn put_rects(
-    rt: &impl Print,
-    out: &mut [u8; 4096],
-    at: usize,
-    rects: &[f64],
-    n: usize,
-) -> io::Result<usize> {
-    let mut to = at;
-    for i in 0..lesser(n, rects.len() / 4) {
-        to = put_rect(rt, out, to, rects, i)?;
-    }
-    Ok(to)
-}
-
-fn put_region(
-    rt: &impl Print,
-    out: &mut [u8; 4096],
-    at: usize,
-    regions: &[u32],
-    i: usize,
-) -> io::Result<usize>
-    requires { 4 * i + 4 ≤ length regions.now }
-{
-    let start = 4 * i;
-    let end = start + 4;
-    let named = printing::put(rt, out, at, b"region")?;
-    printing::put_numbers(rt, out, named, &regions[start..end])
-}
-
-fn put_regions(
-    rt: &impl Print,
-    out: &mut [u8; 4096],
-    at: usize,
-    regions: &[u32],
-    n: usize,
-) -> io::Result<usize> {
-    let mut to = at;
-    for i in 0..lesser(n, regions.len() / 4) {
-        to = put_region(rt, out, to, regions, i)?;
-    }
-    Ok(to)
-}
-
-// A word and a number on a line of their own.
-fn put_count(
-    rt: &impl Print,
-    out: &mut [u8; 4096],
-    at: usize,
-    name: &[u8],
-    n: u64,
-) -> io::Result<usize> {
-    let named = printing::put(rt, out, at, name)?;
-    let counted = printing::put_number(rt, out, named, n)?;
-    printing::put_byte(rt, out, counted, b'\n')
-}
-
-// How many starts an index has: one a row, and the end of the last.
-fn start_count(height: u32, band_height: u32) -> usize {
-    if band_height == 0 {
-        return 0;
-    }
-    let up = band_height as usize - 1;
-    (height as usize + up) / band_height as usize + 1
-}
-
-// Starts, and the entries behind them.
-fn put_index(
-    rt: &impl Print,
-    out: &mut [u8; 4096],
-    at: usize,
-    words: &[u32],
-    starts: usize,
-    end: usize,
-) -> io::Result<usize>
-    requires { (starts ≤ end) × (end ≤ length words.now) }
-{
-    let named = printing::put(rt, out, at, b"starts")?;
-    let begun = printing::put_numbers(rt, out, named, &words[..starts])?;
-    let second = printing::put(rt, out, begun, b"entries")?;
-    printing::put_numbers(rt, out, second, &words[starts..end])
-}
-
-fn put_words(
-    rt: &impl Print,
-    out: &mut [u8; 4096],
-    at: usize,
-    input: &[u8],
-    words: &[u32],
-    count: usize,
-) -> io::Result<usize> {
-    let Header::Sizes(_, height, band_height) = frame::read_header(input) else {
-        return Ok(at);
-    };
-    let end = lesser(count, words.len());
-    let starts = lesser(start_count(height, band_height), end);
-    let counted = put_count(rt, out, at, b"words", count as u64)?;
-    put_index(rt, out, counted, words, starts, end)
-}
-
-// The least space that would have done: commands, glyphs and clips, then what the plan counts.
-fn put_space(
-    rt: &impl Print,
-    out: &mut [u8; 4096],
-    at: usize,
+// How many commands, glyphs and clips the strips of an input have.
+#[derive(Clone, Copy)]
+struct Items {
     commands: u64,
     glyphs: u64,
     clips: u64,
-    rects: usize,
-    regions: u64,
-    words: usize,
-) -> io::Result<usize> {
-    let named = printing::put(rt, out, at, b"space")?;
-    let first = printing::put_number(rt, out, named, commands)?;
-    let second = printing::put_number(rt, out, first, glyphs)?;
-    let third = printing::put_number(rt, out, second, clips)?;
-    let fourth = printing::put_number(rt, out, third, rects as u64)?;
-    let fifth = printing::put_number(rt, out, fourth, regions)?;
-    let sixth = printing::put_number(rt, out, fifth, words as u64)?;
-    printing::put_byte(rt, out, sixth, b'\n')
 }
 
-fn put_space_of_first(
-    rt: &impl Print,
-    out: &mut [u8; 4096],
-    at: usize,
-    input: &[u8],
-    rects: usize,
-    regions: u64,
-    words: usize,
-) -> io::Result<usize> {
-    match frame::first_frame(input) {
-        First::One(new) => {
-            put_space(
-                rt,
-                out,
-                at,
-                new.commands,
-                new.glyphs,
-                new.clips,
-                rects,
-                regions,
-                words,
-            )
+impl Items {
+    fn and(self, other: Items) -> Items {
+        Items {
+            commands: self.commands.wrapping_add(other.commands),
+            glyphs: self.glyphs.wrapping_add(other.glyphs),
+            clips: self.clips.wrapping_add(other.clips),
         }
-        First::NotOne(_, _) => Ok(at),
     }
 }
 
-fn put_space_of_next(
-    rt: &impl Print,
-    out: &mut [u8; 4096],
-    at: usize,
-    input: &[u8],
-    rects: usize,
-    regions: u64,
-    words: usize,
-) -> io::Result<usize> {
-    match frame::both_strips(input) {
-        Pair::Both(old, new) => {
-            let commands = old.commands.wrapping_add(new.commands);
-            let glyphs = old.glyphs.wrapping_add(new.glyphs);
-            let clips = old.clips.wrapping_add(new.clips);
-            put_space(rt, out, at, commands, glyphs, clips, rects, regions, words)
+impl From<Cursor> for Items {
+    fn from(end: Cursor) -> Items {
+        Items {
+            commands: end.commands,
+            glyphs: end.glyphs,
+            clips: end.clips,
         }
-        Pair::NotBoth(_, _) => Ok(at),
     }
 }
 
-fn put_planned(
-    rt: &impl Print,
-    out: &mut [u8; 4096],
-    at: usize,
+// What the strips of a call have; nothing where the input is refused.
+fn items_of(entry: Entry, input: &[u8]) -> Option<Items> {
+    match entry {
+        Entry::First => frame::first_frame(input).ok().map(Items::from),
+        Entry::Next => {
+            let both = frame::both_strips(input).ok()?;
+            Some(Items::from(both.old).and(Items::from(both.new)))
+        }
+    }
+}
+
+// How many starts the index of an input has: one a row, and the end of the last. Nothing without a header.
+fn start_count(input: &[u8]) -> Option<usize> {
+    let sizes = frame::read_header(input).ok()?;
+    if sizes.band_height == 0 {
+        return Some(0);
+    }
+    Some(sizes.height.div_ceil(sizes.band_height) as usize + 1)
+}
+
+fn write_rects(out: &mut impl Write, rects: &[f64]) -> io::Result<()> {
+    for [left, top, right, bottom] in rects.as_chunks::<4>().0 {
+        writeln!(
+            out,
+            "rectangle {} {} {} {}",
+            Edge(*left),
+            Edge(*top),
+            Edge(*right),
+            Edge(*bottom)
+        )?;
+    }
+    Ok(())
+}
+
+fn write_regions(out: &mut impl Write, regions: &[u32]) -> io::Result<()> {
+    for region in regions.chunks_exact(4) {
+        writeln!(out, "region{}", Numbers(region))?;
+    }
+    Ok(())
+}
+
+// The starts, and the entries behind them.
+fn write_index(out: &mut impl Write, starts: usize, words: &[u32]) -> io::Result<()> {
+    let (starts, entries) = words.split_at(starts.min(words.len()));
+    writeln!(out, "starts{}", Numbers(starts))?;
+    writeln!(out, "entries{}", Numbers(entries))
+}
+
+// As much of the output as is counted, if there is so much.
+fn front<T>(words: &[T], count: usize) -> &[T] {
+    words.get(..count).unwrap_or(words)
+}
+
+fn write_plan(
+    out: &mut impl Write,
+    entry: Entry,
     input: &[u8],
-    n: usize,
-    count: usize,
-    work: FrameWork,
-    rects: &[f64],
-    regions: &[u32],
-    words: &[u32],
-) -> io::Result<usize> {
-    let region_count = work.regions_transferred as usize;
-    let begun = put_count(rt, out, at, b"accepted\ncommands", work.commands_emitted)?;
-    let counted = put_count(rt, out, begun, b"rectangles", n as u64)?;
-    let changed = put_rects(rt, out, counted, rects, n)?;
-    let totals = printing::put_totals(
-        rt,
+    plan: Plan,
+    space: &Space,
+) -> io::Result<()> {
+    let Plan { rects, words, work } = plan;
+    let FrameWork {
+        commands_emitted,
+        pixels_transferred: pixels,
+        regions_transferred: regions,
+    } = work;
+    writeln!(
         out,
-        changed,
-        work.regions_transferred,
-        work.pixels_transferred,
+        "accepted\ncommands {commands_emitted}\nrectangles {rects}"
     )?;
-    let listed = put_regions(rt, out, totals, regions, region_count)?;
-    put_words(rt, out, listed, input, words, count)
-}
-
-// The answer to a first frame.
-pub fn put_first(
-    rt: &impl Print,
-    out: &mut [u8; 4096],
-    at: usize,
-    input: &[u8],
-    plan: Plan,
-    rects: &[f64],
-    regions: &[u32],
-    words: &[u32],
-) -> io::Result<usize> {
-    match plan {
-        Plan::Planned(n, count, work) => {
-            let planned = put_planned(rt, out, at, input, n, count, work, rects, regions, words)?;
-            put_space_of_first(rt, out, planned, input, n, work.regions_transferred, count)
-        }
-        Plan::Refused(number, position) => printing::put_refusal(rt, out, at, number, position),
+    write_rects(out, front(&space.rects, rects.saturating_mul(4)))?;
+    writeln!(out, "{}", Totals { regions, pixels })?;
+    write_regions(
+        out,
+        front(&space.regions, (regions as usize).saturating_mul(4)),
+    )?;
+    if let Some(starts) = start_count(input) {
+        writeln!(out, "words {words}")?;
+        write_index(out, starts, front(&space.words, words))?;
     }
+    // The least space that would have done: what was counted in the strips, then what the plan counts.
+    if let Some(items) = items_of(entry, input) {
+        let Items {
+            commands,
+            glyphs,
+            clips,
+        } = items;
+        writeln!(
+            out,
+            "space {commands} {glyphs} {clips} {rects} {regions} {words}"
+        )?;
+    }
+    Ok(())
 }
 
-// The answer to a later frame.
-pub fn put_next(
-    rt: &impl Print,
-    out: &mut [u8; 4096],
-    at: usize,
+// The answer of an entry, whose plan stands in the space.
+pub fn write_answer<W: Write>(
+    out: &mut W,
+    entry: Entry,
     input: &[u8],
-    plan: Plan,
-    rects: &[f64],
-    regions: &[u32],
-    words: &[u32],
-) -> io::Result<usize> {
+    plan: Result<Plan, Refusal>,
+    space: &Space,
+) -> io::Result<()>
+    ensures { OnOk result (IfSome (refused_line plan) (Appends (W.contents out.old) (W.contents out.new))) }
+{
     match plan {
-        Plan::Planned(n, count, work) => {
-            let planned = put_planned(rt, out, at, input, n, count, work, rects, regions, words)?;
-            put_space_of_next(rt, out, planned, input, n, work.regions_transferred, count)
-        }
-        Plan::Refused(number, position) => printing::put_refusal(rt, out, at, number, position),
+        Ok(accepted) => write_plan(out, entry, input, accepted, space),
+        Err(why) => writeln!(out, "{why}"),
     }
 }
 
 // The answer of `candidates`.
-pub fn put_candidates(
-    rt: &impl Print,
-    out: &mut [u8; 4096],
-    at: usize,
+pub fn write_candidates<W: Write>(
+    out: &mut W,
     width: u32,
     height: u32,
     band_height: u32,
     y: u32,
     words: &[u32],
-) -> io::Result<usize> {
-    let number = candidates::refusal(width, height, band_height, y, words);
-    if number != 0 {
-        return printing::put_refusal(rt, out, at, number, 0);
+) -> io::Result<()>
+    ensures { OnOk result (Appends (W.contents out.old) (W.contents out.new) (row_line (find width height band_height y words.now) words.now)) }
+{
+    if let Err(why) = candidates::find(width, height, band_height, y, words) {
+        return writeln!(out, "{why}");
     }
-    let named = printing::put(rt, out, at, b"draw")?;
-    printing::put_numbers(
-        rt,
-        out,
-        named,
-        candidates::candidates(width, height, band_height, y, words),
-    )
+    let row = candidates::candidates(width, height, band_height, y, words);
+    writeln!(out, "draw{}", Numbers(row))
 }

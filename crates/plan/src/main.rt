@@ -2,181 +2,103 @@
 // input is turned away.
 #![tactic(auto)]
 
-ghost use Rattle.std.specs.Prelude.{◌*◌, ◌≤◌, length, IfOk};
+ghost use Rattle.std.specs.Prelude.{◌*◌, ◌≤◌, vec_len};
 
+use entry_calls::{Limits, Space};
 use frame::Header;
 use plans::Plan;
+use printing::{Numbers, Totals};
+use refusals::Fault;
 use std::io;
-use std::io::Read;
+use std::io::{BufWriter, Read, Write};
 
-// The line of a region, and of what to draw there.
-fn put_region(
-    rt: &impl Print,
-    out: &mut [u8; 4096],
-    at: usize,
-    x: u32,
-    y: u32,
-    width: u32,
-    height: u32,
-    row: &[u32],
-) -> io::Result<usize> {
-    let named = printing::put(rt, out, at, b"region")?;
-    let left = printing::put_number(rt, out, named, x as u64)?;
-    let top = printing::put_number(rt, out, left, y as u64)?;
-    let wide = printing::put_number(rt, out, top, width as u64)?;
-    let high = printing::put_number(rt, out, wide, height as u64)?;
-    let drawn = printing::put(rt, out, high, b" draw")?;
-    printing::put_numbers(rt, out, drawn, row)
-}
+// The longest input that is planned.
+const LONGEST_INPUT: usize = 65536;
 
-// The first n regions of a plan, each with the candidates that the plan's own words give: the first `count` of the space
-// lent for them.
-fn put_regions(
-    rt: &impl Print,
-    out: &mut [u8; 4096],
-    at: usize,
-    width: u32,
-    height: u32,
-    band_height: u32,
-    regions: &[u32],
-    n: usize,
-    words: &[u32],
-    count: usize,
-) -> io::Result<usize>
-    requires { (4 * n ≤ length regions.now) × (count ≤ length words.now) }
-{
-    let mut to = at;
-    for i in 0..n {
-        let y = regions[4 * i + 1];
-        let row = candidates::candidates(width, height, band_height, y, &words[..count]);
-        to = put_region(
-            rt,
-            out,
-            to,
-            regions[4 * i],
-            y,
-            regions[4 * i + 2],
-            regions[4 * i + 3],
-            row,
-        )?;
-    }
-    Ok(to)
-}
+// The space that document 01 names: 2,048 rectangles, 4,096 regions and 16,384 index words, and more commands, glyphs
+// and clips than 65,536 bytes can carry. The shortest drawing command has 97 bytes, so that there are 675 at most; a glyph
+// has 45 (1,456 at most) and a clip 33 (1,985).
+const LENT: Limits = Limits {
+    commands: 1024,
+    glyphs: 2048,
+    clips: 2048,
+    rectangles: 2048,
+    regions: 4096,
+    index_words: 16384,
+};
 
-fn print_refusal(rt: &impl Print, number: u32, position: usize) -> io::Result<()> {
-    let mut out = [0u8; 4096];
-    let at = printing::put_refusal(rt, &mut out, 0, number, position)?;
-    printing::finish(rt, &out, at)
-}
-
-// The whole plan: the number of rectangles, the regions, the totals. An input that has a plan has its three sizes.
-fn print_plan(
-    rt: &impl Print,
+// The whole plan: the number of rectangles, the regions, each with the candidates that the plan's own words give, and the totals. An
+// input that has a plan has its three sizes.
+fn write_plan(
+    out: &mut impl Write,
     input: &[u8],
     rects: usize,
-    regions: &[u32; 16384],
-    n: usize,
+    regions: &[u32],
+    words: &[u32],
     pixels: u64,
-    words: &[u32; 16384],
-    count: usize,
-) -> io::Result<()>
-    requires { (n ≤ 4096) × (count ≤ 16384) }
-{
-    let Header::Sizes(width, height, band_height) = frame::read_header(input) else {
+) -> io::Result<()> {
+    let Ok(sizes) = frame::read_header(input) else {
         return Ok(());
     };
-    let mut out = [0u8; 4096];
-    let named = printing::put(rt, &mut out, 0, b"dirty")?;
-    let counted = printing::put_number(rt, &mut out, named, rects as u64)?;
-    let begun = printing::put_byte(rt, &mut out, counted, b'\n')?;
-    let listed = put_regions(
-        rt,
-        &mut out,
-        begun,
+    let Header {
         width,
         height,
         band_height,
-        regions,
-        n,
-        words,
-        count,
-    )?;
-    let whole = printing::put_totals(rt, &mut out, listed, n as u64, pixels)?;
-    printing::finish(rt, &out, whole)
-}
-
-// Lends the space that document 01 names: 2,048 rectangles, 4,096 regions and 16,384 index words, and more commands, glyphs
-// and clips than 65,536 bytes can carry. The shortest drawing command has 97 bytes, so that there are 675 at most; a glyph
-// has 45 (1,456 at most) and a clip 33 (1,985).
-fn answer(rt: &impl Print, input: &[u8]) -> io::Result<()> {
-    let mut rects = [0.0f64; 8192];
-    let mut regions = [0u32; 16384];
-    let mut words = [0u32; 16384];
-    let mut boxes = [0.0f64; 16384];
-    let mut below = [0u64; 2048];
-    let mut items = [0u64; 2048];
-    let mut item_boxes = [0.0f64; 4096];
-    let mut glyph_items = [0u64; 2048];
-    let mut draft_rects = [0.0f64; 8192];
-    let mut work = [0u64; 2048];
-    let mut spare = [0u64; 2048];
-    let mut draft_regions = [0u32; 16384];
-    let mut draft_words = [0u32; 16384];
-    let plan = planner::plan_next(
-        input,
-        &mut rects,
-        &mut regions,
-        &mut words,
-        &mut boxes,
-        &mut below,
-        &mut items,
-        &mut item_boxes,
-        &mut glyph_items,
-        &mut draft_rects,
-        &mut work,
-        &mut spare,
-        &mut draft_regions,
-        &mut draft_words,
-    );
-    match plan {
-        Plan::Planned(n, count, work) => {
-            let region_count = work.regions_transferred as usize;
-            let pixels = work.pixels_transferred;
-            print_plan(rt, input, n, &regions, region_count, pixels, &words, count)
-        }
-        Plan::Refused(number, position) => print_refusal(rt, number, position),
+    } = sizes;
+    writeln!(out, "dirty {rects}")?;
+    let (regions, _) = regions.as_chunks::<4>();
+    for [x, y, wide, high] in regions {
+        let row = candidates::candidates(width, height, band_height, *y, words);
+        writeln!(out, "region {x} {y} {wide} {high} draw{}", Numbers(row))?;
     }
+    let regions = regions.len() as u64;
+    writeln!(out, "{}", Totals { regions, pixels })
 }
 
-// Reads until the array is full or the input ends; how many bytes stand at its front.
-fn read_full(input: &mut impl Read, buf: &mut [u8]) -> io::Result<usize>
-    ensures { IfOk result (λ n. n ≤ length buf.new) }
+// The part of the output that a plan counts.
+fn write_planned(
+    out: &mut impl Write,
+    input: &[u8],
+    plan: Plan,
+    space: &Space,
+) -> io::Result<()>
+    requires regions { 4 * plan.work.regions_transferred ≤ vec_len space.now.regions }
+    requires words { plan.words ≤ vec_len space.now.words }
 {
-    let mut done = 0;
-    while done < buf.len() {
-        let n = input.read(&mut buf[done..])?;
-        if n == 0 {
-            break;
-        }
-        done += n;
+    let Plan { rects, words, work } = plan;
+    let regions = &space.regions[..4 * work.regions_transferred as usize];
+    write_plan(
+        out,
+        input,
+        rects,
+        regions,
+        &space.words[..words],
+        work.pixels_transferred,
+    )
+}
+
+fn answer(out: &mut impl Write, space: &mut Space, input: &[u8]) -> io::Result<()> {
+    match space.plan_next(input) {
+        Ok(plan) => write_planned(out, input, plan, space),
+        Err(why) => writeln!(out, "{why}"),
     }
-    Ok(done)
 }
 
 // One byte more than an input may have shows that it is too long.
 fn main(rt: HostRuntime) -> io::Result<()> {
-    let mut input = [0u8; 65537];
-    match read_full(&mut rt.stdin(), &mut input) {
-        Ok(n) => {
-            if n > 65536 {
-                print_refusal(&rt, 10, 0)
-            } else {
-                answer(&rt, &input[..n])
-            }
-        }
-        Err(error) => {
-            eprintln!(rt; "plan: standard input could not be read to its end")?;
-            Err(error)
-        }
+    let alloc = rt.alloc();
+    let mut input = Vec::with_capacity(alloc, LONGEST_INPUT + 1)?;
+    let most = LONGEST_INPUT as u64 + 1;
+    if let Err(error) = rt.stdin().take(most).read_to_end(&mut input) {
+        eprintln!(rt; "plan: standard input could not be read to its end")?;
+        return Err(error);
     }
+    let mut out = BufWriter::new(alloc, io::writer(&rt))?;
+    if input.len() > LONGEST_INPUT {
+        writeln!(out, "{}", Fault::NoRoom.at(0))?;
+    } else {
+        let mut space = Space::new(alloc, LENT)?;
+        answer(&mut out, &mut space, &input)?;
+    }
+    out.flush()
 }

@@ -1,5 +1,5 @@
 -- The numbers of the table, in the code's words for its cases.
-use Rattle.std.specs.Prelude.{ℕ, Result, Err}
+use Rattle.std.specs.Prelude.{List, ℕ, ◌++◌, Result, Err, codes, decimal}
 use Rattle.refusals.specs.declared.Fault.{Fault}
 use Rattle.refusals.specs.declared.Fault.TheVariants.{Size, CutOff, UnknownCode, NotFinite, NoOpenClip, TooMany, GlyphOrder, TrailingByte, BoxNotFinite, NoRoom, NoRow}
 use Rattle.refusals.specs.declared.Refusal.{Refusal}
@@ -34,3 +34,7 @@ refusal f p = record { fault = f; position = p }
 -- turned away for this fault, at this position
 abbrev pub refused : {A : Type 0} → Fault → ℕ → Result A Refusal
 refused f p = Err (refusal f p)
+
+-- "`refused N at P`", as bytes
+abbrev pub line : Refusal → List ℕ
+line r = codes "refused " ++ (decimal (number r.fault) ++ (codes " at " ++ decimal r.position))

@@ -4,6 +4,8 @@
 ghost use Rattle.std.specs.Prelude.{◌≡◌};
 ghost use Rattle.refusals.specs.Table as Table;
 
+use std::fmt;
+
 // The cases of document 01's table, each with a number of its own.
 #[derive(Clone, Copy, Debug, PartialEq, Eq)]
 pub enum Fault {
@@ -66,5 +68,17 @@ impl Fault {
             fault: self,
             position,
         }
+    }
+}
+
+impl fmt::Display for Refusal {
+    ghost use Rattle.std.specs.Prelude.{Some};
+    ghost use Rattle.refusals.specs.Table.{line};
+
+    ghost output = { λ r. Some (line r) };
+
+    fn fmt<W: fmt::Write>(&self, f: &mut fmt::Formatter<W>) -> fmt::Result {
+        let (number, position) = (self.fault.number(), self.position);
+        write!(f, "refused {number} at {position}")
     }
 }

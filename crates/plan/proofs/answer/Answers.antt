@@ -1,7 +1,15 @@
-use mathlib.Core.Path.{refl}
-use Rattle.plan.proofs.Fits.{lent, planned_fits}
+use Rattle.std.proofs.Common.{rules, ◌≤◌, length}
+use Rattle.entry_calls.specs.Lending.{slices_of}
+use Rattle.plan.proofs.Fits.{regions_fit, words_fit}
 use Rattle.plans.specs.Drafts.{next_outcome}
 use Rattle.plan.proofs.answer.Goals as goal
 
-pub print_plan-requires : goal.print_plan-requires
-print_plan-requires g c = planned_fits lent (next_outcome c.args.input.now) _ _ _ _ c.in-Planned.ensures.answer refl
+pub write_planned-requires-clause-regions : goal.write_planned-requires-clause-regions
+write_planned-requires-clause-regions g c =
+    let fits = regions_fit (slices_of c.args.space.now) (slices_of c.plan_next.new.self) (next_outcome c.args.input.now) _ c.in-Ok.ensures.answer c.in-Ok.ensures.space in
+    search (rules, fits)
+
+pub write_planned-requires-clause-words : goal.write_planned-requires-clause-words
+write_planned-requires-clause-words g c =
+    let fits = words_fit (slices_of c.args.space.now) (slices_of c.plan_next.new.self) (next_outcome c.args.input.now) _ c.in-Ok.ensures.answer c.in-Ok.ensures.space in
+    search (rules, fits)

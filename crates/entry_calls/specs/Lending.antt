@@ -1,0 +1,54 @@
+-- Limits as lent space, space as the slices of a call, and what an entry makes of its bytes.
+use Rattle.std.specs.Prelude.{List, ℕ, min}
+use Rattle.plans.specs.Drafts.{Outcome, first_outcome, next_outcome}
+use Rattle.plans.specs.Space.{Lent, Slices}
+use Rattle.entry_calls.specs.declared.Entry.{Entry}
+use Rattle.entry_calls.specs.declared.Entry.TheVariants.{First, Next}
+use Rattle.entry_calls.specs.declared.Limits.{Limits}
+use Rattle.entry_calls.specs.declared.Space.{Space}
+
+abbrev pub lent : Limits → Lent
+lent n =
+    record {
+      commands = n.commands;
+      glyphs = n.glyphs;
+      clips = n.clips;
+      rects = n.rectangles;
+      regions = n.regions;
+      words = n.index_words;
+    }
+
+-- the lesser of both, of each kind
+abbrev pub at_most : Limits → Limits → Limits
+at_most a b =
+    record {
+      commands = min a.commands b.commands;
+      glyphs = min a.glyphs b.glyphs;
+      clips = min a.clips b.clips;
+      rectangles = min a.rectangles b.rectangles;
+      regions = min a.regions b.regions;
+      index_words = min a.index_words b.index_words;
+    }
+
+abbrev pub slices_of : Space → Slices
+slices_of s =
+    record {
+      rects = s.rects.items;
+      regions = s.regions.items;
+      words = s.words.items;
+      boxes = s.boxes.items;
+      below = s.below.items;
+      items = s.items.items;
+      item_boxes = s.item_boxes.items;
+      glyphs = s.glyph_items.items;
+      draft_rects = s.draft_rects.items;
+      work = s.work.items;
+      spare = s.spare.items;
+      draft_regions = s.draft_regions.items;
+      draft_words = s.draft_words.items;
+    }
+
+-- what the bytes come to, for the entry that is called
+abbrev pub outcome : Entry → List ℕ → Outcome
+outcome First s = first_outcome s
+outcome Next s = next_outcome s

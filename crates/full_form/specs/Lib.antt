@@ -1,0 +1,2 @@
+-- What answers look like.
+pub mod Texts

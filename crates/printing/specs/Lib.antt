@@ -1,0 +1,2 @@
+-- What the programs' lines say.
+pub mod Lines

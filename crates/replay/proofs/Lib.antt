@@ -1,2 +1,0 @@
--- Laws behind the program's proofs.
-pub mod Lengths
