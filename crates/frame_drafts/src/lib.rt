@@ -13,12 +13,6 @@ use geometry::Rect;
 use plans::Plan;
 use refusals::{Fault, Refusal};
 
-pub fn lesser(a: usize, b: usize) -> usize
-    ensures { result ≡ min a b }
-{
-    if a < b { a } else { b }
-}
-
 // Whether scratch holds so many commands, glyphs and clips.
 fn items_fit(
     commands: u64,
@@ -32,9 +26,9 @@ fn items_fit(
 ) -> bool
     ensures { result ≡ items_fit (lent boxes.now below.now items.now item_boxes.now glyph_items.now 0 0 0) (record { commands = commands; glyphs = glyphs; clips = clips }) }
 {
-    let command_room = lesser(items.len() / 2, item_boxes.len() / 4) as u64;
+    let command_room = (items.len() / 2).min(item_boxes.len() / 4) as u64;
     let glyph_room = glyph_items.len() as u64;
-    let clip_room = lesser(boxes.len() / 8, below.len()) as u64;
+    let clip_room = (boxes.len() / 8).min(below.len()) as u64;
     if commands <= command_room {
         if glyphs <= glyph_room {
             return clips <= clip_room;

@@ -56,12 +56,7 @@ fn write_plan(
 }
 
 // The part of the output that a plan counts.
-fn write_planned(
-    out: &mut impl Write,
-    input: &[u8],
-    plan: Plan,
-    space: &Space,
-) -> io::Result<()>
+fn write_planned(out: &mut impl Write, input: &[u8], plan: Plan, space: &Space) -> io::Result<()>
     requires regions { 4 * plan.work.regions_transferred ≤ vec_len space.now.regions }
     requires words { plan.words ≤ vec_len space.now.words }
 {

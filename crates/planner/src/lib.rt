@@ -15,9 +15,9 @@ use refusals::Refusal;
 fn rect_room(rects: &[f64], draft_rects: &[f64], work: &[u64], spare: &[u64]) -> usize
     ensures { result ≡ min (min (length rects.now / 4) (length draft_rects.now / 4)) (min (length work.now) (length spare.now)) }
 {
-    let listed = frame_drafts::lesser(rects.len() / 4, draft_rects.len() / 4);
-    let worked = frame_drafts::lesser(work.len(), spare.len());
-    frame_drafts::lesser(listed, worked)
+    let listed = (rects.len() / 4).min(draft_rects.len() / 4);
+    let worked = work.len().min(spare.len());
+    listed.min(worked)
 }
 
 // Copies a plan that was accepted from scratch to the output.
@@ -102,8 +102,8 @@ pub fn plan_first(
     ensures scratch { (ZeroFloats boxes.old boxes.new) × (Zeros below.old below.new) × (Zeros items.old items.new) × (ZeroFloats item_boxes.old item_boxes.new) × (Zeros glyph_items.old glyph_items.new) × (ZeroFloats draft_rects.old draft_rects.new) × (Zeros work.old work.new) × (Zeros spare.old spare.new) × (Zeros draft_regions.old draft_regions.new) × (Zeros draft_words.old draft_words.new) }
 {
     let rect_room = rect_room(rects, draft_rects, work, spare);
-    let region_room = frame_drafts::lesser(regions.len() / 4, draft_regions.len() / 4);
-    let word_room = frame_drafts::lesser(words.len(), draft_words.len());
+    let region_room = (regions.len() / 4).min(draft_regions.len() / 4);
+    let word_room = words.len().min(draft_words.len());
     let plan = frame_drafts::first_frame(
         input,
         rect_room,
@@ -158,8 +158,8 @@ pub fn plan_next(
     ensures scratch { (ZeroFloats boxes.old boxes.new) × (Zeros below.old below.new) × (Zeros items.old items.new) × (ZeroFloats item_boxes.old item_boxes.new) × (Zeros glyph_items.old glyph_items.new) × (ZeroFloats draft_rects.old draft_rects.new) × (Zeros work.old work.new) × (Zeros spare.old spare.new) × (Zeros draft_regions.old draft_regions.new) × (Zeros draft_words.old draft_words.new) }
 {
     let rect_room = rect_room(rects, draft_rects, work, spare);
-    let region_room = frame_drafts::lesser(regions.len() / 4, draft_regions.len() / 4);
-    let word_room = frame_drafts::lesser(words.len(), draft_words.len());
+    let region_room = (regions.len() / 4).min(draft_regions.len() / 4);
+    let word_room = words.len().min(draft_words.len());
     let plan = frame_drafts::next_frame(
         input,
         rect_room,

@@ -16,9 +16,9 @@ returns-in-Ok c =
 
 pub returns-in-Err : goal.returns-in-Err
 returns-in-Err c =
-    let words = c.overwrite-in-Err.ensures ∙ ap (λ (n : ℕ). overwritten (n ∷ _) _) c.number.ensures in
+    let words = c.overwrite-in-Err.ensures ∙ ap (λ (n : ℕ). overwritten (n ∷ _) _) c.number-number.ensures in
     let all = told number_of answer_words _ _ c.in-Err.is _ _ words in
     record {
-      number = c.number.ensures ∙ all.0;
+      number = c.number-number.ensures ∙ all.0;
       words = all.1;
     }

@@ -5,10 +5,10 @@ use mathlib.Core.Path.{◌∙◌}
 use Rattle.planner.proofs.plan_next.Goals as goal
 
 pub next_frame-plan-requires : goal.next_frame-plan-requires
-next_frame-plan-requires c = roomy c.args.rects.now c.args.draft_rects.now c.args.work.now c.args.spare.now c.args.regions.now c.args.draft_regions.now c.args.words.now c.args.draft_words.now _ _ _ c.rect_room-rect_room.ensures c.lesser-region_room.ensures c.lesser-word_room.ensures
+next_frame-plan-requires c = roomy c.args.rects.now c.args.draft_rects.now c.args.work.now c.args.spare.now c.args.regions.now c.args.draft_regions.now c.args.words.now c.args.draft_words.now _ _ _ c.rect_room-rect_room.ensures c.min-region_room.ensures c.min-word_room.ensures
 
 pub publish-requires : goal.publish-requires
-publish-requires c = copies c.args.rects.now c.args.draft_rects.now c.args.work.now c.args.spare.now c.args.regions.now c.args.draft_regions.now c.args.words.now c.args.draft_words.now _ _ _ c.rect_room-rect_room.ensures c.lesser-region_room.ensures c.lesser-word_room.ensures c.args.boxes.now c.args.below.now c.args.items.now c.args.item_boxes.now c.args.glyph_items.now (next_outcome c.args.input.now) _ c.next_frame-plan.ensures.answer _ _ _ c.next_frame-plan.auto.rects c.next_frame-plan.auto.regions c.next_frame-plan.auto.words
+publish-requires c = copies c.args.rects.now c.args.draft_rects.now c.args.work.now c.args.spare.now c.args.regions.now c.args.draft_regions.now c.args.words.now c.args.draft_words.now _ _ _ c.rect_room-rect_room.ensures c.min-region_room.ensures c.min-word_room.ensures c.args.boxes.now c.args.below.now c.args.items.now c.args.item_boxes.now c.args.glyph_items.now (next_outcome c.args.input.now) _ c.next_frame-plan.ensures.answer _ _ _ c.next_frame-plan.auto.rects c.next_frame-plan.auto.regions c.next_frame-plan.auto.words
 
 pub shape_of-rects : goal.shape_of-rects
 shape_of-rects c = c.publish.auto.rects
@@ -53,7 +53,7 @@ pub returns : goal.returns
 returns c =
     let p = all_published _ (next_outcome c.args.input.now) _ c.next_frame-plan.ensures.answer c.next_frame-plan.new.rects c.next_frame-plan.new.regions c.next_frame-plan.new.words c.next_frame-plan.ensures.stands c.args.rects.now c.args.regions.now c.args.words.now _ _ _ c.publish.ensures.rectangles c.publish.ensures.scheduled c.publish.ensures.index in
     record {
-      answer = answered c.args.rects.now c.args.draft_rects.now c.args.work.now c.args.spare.now c.args.regions.now c.args.draft_regions.now c.args.words.now c.args.draft_words.now _ _ _ c.rect_room-rect_room.ensures c.lesser-region_room.ensures c.lesser-word_room.ensures c.args.boxes.now c.args.below.now c.args.items.now c.args.item_boxes.now c.args.glyph_items.now (next_outcome c.args.input.now) _ c.next_frame-plan.ensures.answer;
+      answer = answered c.args.rects.now c.args.draft_rects.now c.args.work.now c.args.spare.now c.args.regions.now c.args.draft_regions.now c.args.words.now c.args.draft_words.now _ _ _ c.rect_room-rect_room.ensures c.min-region_room.ensures c.min-word_room.ensures c.args.boxes.now c.args.below.now c.args.items.now c.args.item_boxes.now c.args.glyph_items.now (next_outcome c.args.input.now) _ c.next_frame-plan.ensures.answer;
       rectangles = p.0;
       scheduled = p.1.0;
       index = p.1.1;
