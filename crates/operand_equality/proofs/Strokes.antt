@@ -11,7 +11,7 @@ use Rattle.commands.specs.declared.Stroke.{Stroke}
 use Rattle.commands.specs.contracts.JoinPartialEq.TheImpl as joins
 use Rattle.commands.specs.contracts.CapPartialEq.TheImpl as caps
 use Rattle.commands.specs.contracts.StrokePartialEq.TheImpl as strokes
-use Rattle.operand_equality.specs.Operands.{join_code, cap_code, same_cap, same_stroke}
+use Rattle.operand_equality.specs.Operands.{join_code, same_cap, same_stroke}
 
 pub join_told : (j k : Join) → joins.ghosts.eq j k ≡ eqb (join_code j) (join_code k)
 join_told J.Bevel J.Bevel = refl

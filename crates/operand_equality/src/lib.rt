@@ -1,19 +1,12 @@
 // Operands of draw commands compared as dew's `DrawCommand::eq` does: numbers as they are, floats by value.
 #![tactic(auto)]
 
-ghost use Rattle.std.specs.Prelude.{◌≡◌, ◌&&◌};
+ghost use Rattle.std.specs.Prelude.{◌≡◌};
 ghost use Rattle.operand_equality.specs.Operands as Operands;
 
 use affine::Affine;
 use commands::Stroke;
 use geometry::Rect;
-
-// Whether both tests hold, as a value.
-pub fn both(a: bool, b: bool) -> bool
-    ensures { result ≡ (a && b) }
-{
-    a && b
-}
 
 #[tactic(auto, unfolding(crate::specs::Operands::same_affine))]
 pub fn same_affine(affine: Affine, other: Affine) -> bool
