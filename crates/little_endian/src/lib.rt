@@ -25,25 +25,26 @@ fn bytes_inside<const N: usize>(s: &[u8], at: usize) -> [u8; N]
     *s[at..at + N].as_array().unwrap()
 }
 
-// The N bytes from an offset on, which the end may cut. By itself, so that where all bytes are there nothing but their place is asked.
+// The bytes there are, and then 0. By itself, so that what calls it only where the end cuts stays small.
 #[inline(never)]
-fn bytes_cut<const N: usize>(s: &[u8], at: usize) -> [u8; N]
-    ensures { (i : ℕ) → i < N → get_or result i 0 ≡ get_or s.now (at + i) 0 }
+fn filled_up<const N: usize>(rest: &[u8]) -> [u8; N]
+    requires { length rest.now < N }
+    ensures { (i : ℕ) → i < N → get_or result i 0 ≡ get_or rest.now i 0 }
 {
-    let rest = &s[at.min(s.len())..];
-    let n = rest.len().min(N);
     let mut bytes = [0; N];
-    bytes[..n].copy_from_slice(&rest[..n]);
+    bytes[..rest.len()].copy_from_slice(rest);
     bytes
 }
 
+// The N bytes from an offset on, which the end may cut.
 fn bytes_at<const N: usize>(s: &[u8], at: usize) -> [u8; N]
     ensures { (i : ℕ) → i < N → get_or result i 0 ≡ get_or s.now (at + i) 0 }
 {
-    if at < s.len() && N <= s.len() - at {
-        return bytes_inside(s, at);
+    let rest = &s[at.min(s.len())..];
+    match rest.first_chunk() {
+        Some(bytes) => *bytes,
+        None => filled_up(rest),
     }
-    bytes_cut(s, at)
 }
 
 #[tactic(auto, using(crate::proofs::Read::u16_read))]
@@ -144,7 +145,7 @@ pub fn f64_inside(s: &[u8], at: usize) -> f64
 }
 
 // True only where the n bytes from p on are those from q on. A row of eight or more, short of 128, is compared eight at a time, and the last eight even if
-// some of them were: std's `==` takes a third longer there where n is known when this is compiled (45 bytes: 7.8 ns, not 5.8), and half as long past it.
+// some of them were: std's `==` takes a third longer there where n is known when this is compiled (45 bytes: 7.8 ns, not 5.8), and less past it (1,000 bytes: 34, not 57).
 pub fn same_bytes(s: &[u8], p: usize, q: usize, n: usize) -> bool
     requires { (p + n ≤ length s.now) × (q + n ≤ length s.now) }
     ensures { result ≡ true → SameBytes s.now p q n }

@@ -14,7 +14,9 @@ ghost use Rattle.strip_equality.specs.Places.{same_path_at};
 use operand_equality::stroke_eq;
 use strip_format::stroke_at;
 
-// Whether the f64 at two offsets are equal. Most have the same bits, and what is decoded is finite, so it equals itself.
+// Whether the f64 at two offsets are equal. Most have the same bits, and what is decoded is finite, so it equals itself. By itself, so that what calls it only
+// where bytes differ stays small.
+#[inline(never)]
 fn same_f64(s: &[u8], p: usize, q: usize) -> bool
     requires { (p + 8 ≤ length s.now) × (q + 8 ≤ length s.now) }
     ensures { result ≡ eq (f64_at s.now p) (f64_at s.now q) }
