@@ -1,7 +1,7 @@
 -- The turns of the loop over the bands. Assumes nothing.
 use mathlib.Core.Path.{◌≡◌, refl, sym, ap, ◌∙◌, subst}
 use mathlib.Core.List.{List, ◌++◌, map}
-use Prim.Native.Nat.{ℕ, zero, suc, ◌+◌, ◌-◌, ◌*◌, ◌/◌, ◌≤◌, ◌<◌, min}
+use Prim.Native.Nat.{ℕ, zero, suc, ◌+◌, ◌-◌, ◌*◌, ◌/◌, ◌≤◌, ◌<◌}
 use native.Mathlib.Nat.{le-div_iff_mul-le, suc-mul, div-le_self}
 use native.Mathlib.Numerals.{add-one}
 use native.Mathlib.Omega.{arith}
@@ -31,10 +31,6 @@ band_of_row h b j p g = (le-div_iff_mul-le {k = b} {x = suc j} {y = h + (b - 1)}
 
 pub next_row : (b j : ℕ) → (j + 1) * b ≡ j * b + b
 next_row b j = rw (add-one j) (suc-mul j b)
-
--- a band, by its height
-pub band_is : (w h b row n : ℕ) → n ≡ min b (h - row) → ◌≡◌ {A = DeviceRegion} (record { x = 0; y = row; width = w; height = n }) (band_from w h b row)
-band_is w h b row n e = λ i. record { x = 0; y = row; width = w; height = e i }
 
 module _ (w h b : ℕ) (l : List DeviceRegion) where
   pub bands_next : (j : ℕ) → bands_to w h b l (j + 1) ≡ bands_to w h b l j ++ band_regions (band_from w h b (j * b)) l
