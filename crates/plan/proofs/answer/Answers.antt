@@ -1,4 +1,4 @@
-use Rattle.std.proofs.Common.{rules, ◌≤◌, length}
+use Rattle.std.proofs.Common.{rules}
 use Rattle.entry_calls.specs.Lending.{slices_of}
 use Rattle.plan.proofs.Fits.{regions_fit, words_fit}
 use Rattle.plans.specs.Drafts.{next_outcome}
