@@ -124,17 +124,31 @@ fn answer(out: &mut impl Write, alloc: Global, call: &[u8]) -> io::Result<()> {
     writeln!(out, ".")
 }
 
-fn main(rt: HostRuntime) -> io::Result<()> {
-    let alloc = rt.alloc();
-    let mut out = BufWriter::new(alloc, io::writer(&rt))?;
-    let mut input = rt.stdin();
+// All calls of standard input.
+fn answer_calls(
+    rt: &impl Eprint,
+    input: &mut impl Read,
+    out: &mut impl Write,
+    alloc: Global,
+) -> io::Result<()> {
     let mut room = vec![in alloc; 0u8; LONGEST_CALL]?;
     // A proved loop ends: it has more turns than any batch uses up.
     for _ in 0..u64::MAX {
-        let Some(call) = read_call(&rt, &mut input, &mut room)? else {
+        let Some(call) = read_call(rt, input, &mut room)? else {
             break;
         };
-        answer(&mut out, alloc, call)?;
+        answer(out, alloc, call)?;
+    }
+    Ok(())
+}
+
+fn main(rt: HostRuntime) -> io::Result<()> {
+    let alloc = rt.alloc();
+    let mut out = BufWriter::new(alloc, io::writer(&rt))?;
+    if let Err(error) = answer_calls(&rt, &mut rt.stdin(), &mut out, alloc) {
+        // Where reading or writing fails, what was gathered by then is lost.
+        let _ = out.into_parts();
+        return Err(error);
     }
     out.flush()
 }

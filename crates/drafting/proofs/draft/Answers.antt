@@ -15,7 +15,7 @@ pub returns-then-region_room-totals : goal.returns-then-region_room-totals
 returns-then-region_room-totals c =
     let all = regions_over c.args.width c.args.height c.args.band_height c.args.rects.now c.args.n c.args.item_boxes.now c.args.first c.args.commands c.args.rect_room c.args.region_room c.args.word_room _ _ _ c.schedule.ensures _ c.in-Some.is c.if-region_room-totals.true _ _ in
     record {
-      answer = ap Err c.at-then-region_room-count.ensures ∙ all.0;
+      answer = ap Err c.at-then-region_room-totals.ensures ∙ all.0;
       stands = all.1;
     }
 
@@ -31,6 +31,6 @@ pub returns-in-None : goal.returns-in-None
 returns-in-None c =
     let all = regions_full c.args.width c.args.height c.args.band_height c.args.rects.now c.args.n c.args.item_boxes.now c.args.first c.args.commands c.args.rect_room c.args.region_room c.args.word_room _ _ c.requires.region_room _ c.schedule.ensures c.in-None.is _ _ in
     record {
-      answer = ap Err c.at-in-Full.ensures ∙ all.0;
+      answer = ap Err c.at-in-None.ensures ∙ all.0;
       stands = all.1;
     }

@@ -24,6 +24,6 @@ pub returns-in-None : goal.returns-in-None
 returns-in-None c =
     let all = index_full c.args.room c.args.rects c.args.commands c.args.regions c.args.pixels c.args.height c.args.band_height (4 * c.args.first) c.args.item_boxes.now _ _ _ _ (part_rest c.args.item_boxes.now (4 * c.args.first)) c.build.ensures.value c.build.ensures.words_after c.in-None.is c.requires.4 in
     record {
-      answer = ap Err c.at-in-Full.ensures ∙ all.0;
+      answer = ap Err c.at-in-None.ensures ∙ all.0;
       held = all.1;
     }
