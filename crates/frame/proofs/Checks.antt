@@ -1,9 +1,8 @@
 -- The header and the strips behind it, by the checks in their order. Assumes nothing.
-use Rattle.std.specs.Prelude.{◌≡◌, true, false, ◌&&◌, List, ℕ, ◌≤◌, ◌<◌, leb, length, Result, Ok, Err}
+use Rattle.std.specs.Prelude.{◌≡◌, true, false, ◌&&◌, List, ℕ, ◌≤◌, ◌<◌, length, Ok}
 use mathlib.Core.Path.{sym, ap}
-use borrow.Author.Tests.{eq-eqb, ne_eqb, le-ltb, lt-ltb}
+use borrow.Author.Tests.{le-ltb, lt-ltb}
 use Rattle.refusals.specs.declared.Fault.TheVariants.{Size, CutOff, TrailingByte}
-use Rattle.refusals.specs.declared.Refusal.{Refusal}
 use Rattle.refusals.specs.Table.{refused}
 use Rattle.little_endian.specs.Words.{u32_at}
 use Rattle.strip.specs.declared.Cursor.{Cursor}

@@ -24,7 +24,6 @@ use Rattle.scheduler.specs.Schedule.{Sizes, schedule}
 use Rattle.changes.specs.Changes.{diff_dirty}
 use Rattle.strip.specs.declared.Cursor.{Cursor}
 use Rattle.strip.specs.Reading.{read_strip, commands_of}
-use Rattle.frame.specs.declared.Strips.{Strips}
 use Rattle.frame.specs.Frame.{size_fits, header_of, ended, with_old, then_new, then_end, first_of, both_of}
 use Rattle.frame.proofs.Checks.{both_next}
 use Rattle.plans.specs.declared.Plan.{Plan}

@@ -10,7 +10,6 @@ use borrow.Author.Tests.{ne_eqb}
 use lib.Ieee.{Float}
 use Rattle.std.specs.Prelude.{Result, Ok, Err}
 use Rattle.refusals.specs.declared.Refusal.{Refusal}
-use Rattle.refusals.specs.Table.{refused}
 use Rattle.lists.proofs.Picks.{by_le}
 use Rattle.geometry.specs.declared.Rect.{Rect}
 use Rattle.affine.proofs.Corners.{try_is}

@@ -6,7 +6,6 @@ use native.Mathlib.Omega.{arith}
 use lib.ListN.{length, get_or}
 use borrow.Author.Tests.{le-leb}
 use Rattle.refusals.specs.declared.Refusal.{Refusal}
-use Rattle.refusals.specs.Table.{refused}
 use Rattle.lists.specs.Members.{All}
 use Rattle.lists.proofs.Members.{all_map, all_append, all_take}
 use Rattle.geometry.specs.declared.Rect.{Rect}

@@ -6,7 +6,6 @@ use native.Mathlib.Omega.{arith}
 use lib.ListN.{length, length-append}
 use Rattle.std.specs.Prelude.{Result, Ok, Err}
 use Rattle.refusals.specs.declared.Refusal.{Refusal}
-use Rattle.refusals.specs.Table.{refused}
 use Rattle.commands.specs.Bounds.{Command, glyph_count}
 use Rattle.strip_format.specs.Format.{command_at}
 use Rattle.strip.specs.declared.Cursor.{Cursor}

@@ -5,7 +5,6 @@ use native.Mathlib.Omega.{arith}
 use lib.ListN.{length}
 use Rattle.std.specs.Prelude.{Result, Ok, Err}
 use Rattle.refusals.specs.declared.Refusal.{Refusal}
-use Rattle.refusals.specs.Table.{refused}
 use Rattle.lists.specs.Members.{All, Pairs}
 use Rattle.lists.proofs.Members.{all_map}
 use Rattle.strip.specs.declared.Cursor.{Cursor}

@@ -3,7 +3,6 @@ use Rattle.std.specs.Prelude.{List, ℕ, ◌<◌, Result, Ok, Err}
 use Rattle.refusals.specs.declared.Refusal.{Refusal}
 use Rattle.refusals.specs.Table.{number}
 use Rattle.refusals.proofs.Numbers.{number_positive}
-use Rattle.strip.specs.declared.Cursor.{Cursor}
 use Rattle.strip.specs.Reading.{read_strip}
 
 -- an answer's number, where it has one, is above 0

@@ -7,7 +7,6 @@ use lib.Dec.{eqb}
 use lib.ListN.{length, get_or}
 use borrow.Author.Tests.{eq-eqb, ne_eqb}
 use Rattle.refusals.specs.declared.Refusal.{Refusal}
-use Rattle.refusals.specs.Table.{refused}
 use Rattle.lists.specs.Members.{All}
 use Rattle.lists.proofs.Members.{all_append}
 use Rattle.lists.proofs.Picks.{pick_true, pick_false}

@@ -1,5 +1,4 @@
 -- What is left to test decides as the whole does. Assumes nothing.
-use mathlib.Core.Path.{sym, ◌∙◌}
 use Rattle.operand_checks.proofs.Finite.{left_next, left_stops, left_none, of_word}
 use Rattle.operand_checks.proofs.finite_cut.Goals as goal
 

@@ -3,7 +3,7 @@ use Rattle.strip.proofs.Settled.{draw_settles}
 use Rattle.strip.proofs.Effects.{draws_whole, draws_run}
 use Rattle.strip.specs.Effects.{settled}
 use Rattle.strip.specs.Steps.{draw_step}
-use mathlib.Core.Path.{sym, ap, ◌∙◌}
+use mathlib.Core.Path.{ap, ◌∙◌}
 use Rattle.strip.proofs.Cursor.draw_or_run.Goals as goal
 
 pub returns-then-due-eq0 : goal.returns-then-due-eq0
