@@ -3,7 +3,7 @@ use Rattle.std.specs.Prelude.{Result}
 use Rattle.refusals.specs.declared.Fault.TheVariants.{NoRoom}
 use Rattle.refusals.specs.declared.Refusal.{Refusal}
 use Rattle.refusals.specs.Table.{refused}
-use Rattle.std.proofs.Common.{◌≡◌, ℕ, ◌*◌, ◌/◌, ◌<◌, ◌≤◌, min, Bool, true, false, leb, List, map, length, take, drop, sym, ap, ◌∙◌, subst, arith, le-leb}
+use Rattle.std.proofs.Common.{◌≡◌, ℕ, ◌*◌, ◌<◌, ◌≤◌, Bool, true, false, leb, List, map, length, take, drop, sym, ap, ◌∙◌, subst, arith}
 use lib.Ieee.{Float}
 use borrow.Author.Tests.{lt-leb}
 use Rattle.lists.specs.Pick.{pick}
@@ -22,7 +22,6 @@ use Rattle.plans.specs.Space.{Lent}
 use Rattle.plans.specs.Answers.{items_fit, draft_fits, accepted, answer_of}
 use Rattle.drafting.specs.Drafted.{draft_in, rooms, judged, StandsIf}
 use Rattle.drafting.proofs.Words.{rects_length, rects_back}
-use Rattle.frame_drafts.specs.Scratch.{lent}
 
 pub untrue : {P : Type 0} → false ≡ true → P
 untrue e = let z : ◌≡◌ {A = ℕ} 0 1 = ap (λ (b : Bool). pick b 1 0) e in absurd (omega arith)
@@ -58,19 +57,5 @@ module _ (w h b : ℕ) (l : List Rect) (cs : List Command) (old rs : List Float)
     answered = by_le n R fits_small too_many
 
 -- ---- items that do not fit
-pub no_items : (z : Lent) (i : Items) (d : Draft) → items_fit z i ≡ false → ((refused NoRoom 0) ≡ answer_of z (drafted i d))
+pub no_items : (z : Lent) (i : Items) (d : Draft) → items_fit z i ≡ false → (refused NoRoom 0 ≡ answer_of z (drafted i d))
 no_items z i d e = rw e
-
--- ---- the test of the items, by its parts
-module _ (bs : List Float) (ns is : List ℕ) (ibs : List Float) (glyphs : List ℕ) (i : Items) (room clip_room : ℕ) (p : room ≡ min (length is / 2) (length ibs / 4)) (q : clip_room ≡ min (length bs / 8) (length ns)) where
-  pub commands_over : room < i.commands → false ≡ items_fit (lent bs ns is ibs glyphs 0 0 0) i
-  unfolding items_fit
-  commands_over h = rw (sym p, lt-leb i.commands room h)
-
-  pub glyphs_over : i.commands ≤ room → length glyphs < i.glyphs → false ≡ items_fit (lent bs ns is ibs glyphs 0 0 0) i
-  unfolding items_fit
-  glyphs_over h k = rw (sym p, le-leb i.commands room h, lt-leb i.glyphs (length glyphs) k)
-
-  pub clips_told : i.commands ≤ room → i.glyphs ≤ length glyphs → leb i.clips clip_room ≡ items_fit (lent bs ns is ibs glyphs 0 0 0) i
-  unfolding items_fit
-  clips_told h k = rw (sym p, sym q, le-leb i.commands room h, le-leb i.glyphs (length glyphs) k)

@@ -14,6 +14,7 @@ use plans::Plan;
 use refusals::{Fault, Refusal};
 
 // Whether scratch holds so many commands, glyphs and clips.
+#[tactic(auto, unfolding(plans::specs::Answers::items_fit))]
 fn items_fit(
     commands: u64,
     glyphs: u64,
@@ -29,13 +30,7 @@ fn items_fit(
     let command_room = (items.len() / 2).min(item_boxes.len() / 4) as u64;
     let glyph_room = glyph_items.len() as u64;
     let clip_room = (boxes.len() / 8).min(below.len()) as u64;
-    if commands <= command_room {
-        if glyphs <= glyph_room {
-            return clips <= clip_room;
-        }
-        return false;
-    }
-    false
+    commands <= command_room && glyphs <= glyph_room && clips <= clip_room
 }
 
 // The draft of a first frame, whose one rectangle is the whole screen.

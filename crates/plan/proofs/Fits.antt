@@ -13,7 +13,6 @@ use borrow.Author.Tests.{leb-true}
 use native.Mathlib.Omega.{arith}
 use Rattle.lists.proofs.Picks.{pick_cases}
 use Rattle.lists.proofs.Bools.{holds, is_true}
-use Rattle.runtime.specs.declared.FrameWork.{FrameWork}
 use Rattle.plans.specs.declared.Plan.{Plan}
 use Rattle.plans.specs.Drafts.{Draft, Outcome, turned, drafted}
 use Rattle.plans.specs.Space.{Lent, Slices, lent_of}

@@ -12,33 +12,6 @@ append-n-requires c = lit≤ tt
 pub draft-requires : goal.draft-requires
 draft-requires c = first_ready c.args.s.now c.args.width c.args.height c.args.band_height _ _ c.args.glyph_items.now c.args.rect_room c.args.region_room c.args.word_room _ c.in_ok-new.ensures.answer c.in_ok-new.ensures.lengths c.in_ok-new.ensures.lists _ refl _ c.items_fit.ensures c.if-not-items_fit.false _ _ _ _ _ c.nearest_u64_to_f64.ensures c.nearest_u64_to_f64-2.ensures c.append-n.ensures c.requires.0 _ _ _ _ c.requires.1
 
-pub shape_of-boxes : goal.shape_of-boxes
-shape_of-boxes c = c.record_first.auto.boxes
-
-pub shape_of-below : goal.shape_of-below
-shape_of-below c = c.record_first.auto.below
-
-pub shape_of-items : goal.shape_of-items
-shape_of-items c = c.draft.auto.spans ∙ c.record_first.auto.items
-
-pub shape_of-item_boxes : goal.shape_of-item_boxes
-shape_of-item_boxes c = c.record_first.auto.item_boxes
-
-pub shape_of-rects : goal.shape_of-rects
-shape_of-rects c = c.append-n.auto.rects
-
-pub shape_of-work : goal.shape_of-work
-shape_of-work c = c.draft.auto.work
-
-pub shape_of-spare : goal.shape_of-spare
-shape_of-spare c = c.draft.auto.spare
-
-pub shape_of-regions : goal.shape_of-regions
-shape_of-regions c = c.draft.auto.regions
-
-pub shape_of-words : goal.shape_of-words
-shape_of-words c = c.draft.auto.words
-
 pub returns : goal.returns
 returns c =
     let all = first_meets c.args.s.now c.args.width c.args.height c.args.band_height _ _ c.args.glyph_items.now c.args.rect_room c.args.region_room c.args.word_room _ c.in_ok-new.ensures.answer c.in_ok-new.ensures.lengths c.in_ok-new.ensures.lists _ refl _ c.items_fit.ensures c.if-not-items_fit.false _ _ _ _ _ c.nearest_u64_to_f64.ensures c.nearest_u64_to_f64-2.ensures c.append-n.ensures c.requires.1.rect_room _ _ _ c.draft.ensures.answer c.draft.ensures.stands in
@@ -47,18 +20,6 @@ returns c =
       stands = all.1;
     }
 
-pub shape_of-boxes-then-not-items_fit : goal.shape_of-boxes-then-not-items_fit
-shape_of-boxes-then-not-items_fit c = c.record_first.auto.boxes
-
-pub shape_of-below-then-not-items_fit : goal.shape_of-below-then-not-items_fit
-shape_of-below-then-not-items_fit c = c.record_first.auto.below
-
-pub shape_of-items-then-not-items_fit : goal.shape_of-items-then-not-items_fit
-shape_of-items-then-not-items_fit c = c.record_first.auto.items
-
-pub shape_of-item_boxes-then-not-items_fit : goal.shape_of-item_boxes-then-not-items_fit
-shape_of-item_boxes-then-not-items_fit c = c.record_first.auto.item_boxes
-
 pub returns-then-not-items_fit : goal.returns-then-not-items_fit
 returns-then-not-items_fit c =
     let all = first_over c.args.s.now c.args.width c.args.height c.args.band_height _ _ c.args.glyph_items.now c.args.rect_room c.args.region_room c.args.word_room _ c.in_ok-new.ensures.answer c.in_ok-new.ensures.lengths c.in_ok-new.ensures.lists _ refl _ c.items_fit.ensures c.if-not-items_fit.true _ _ _ in
@@ -66,18 +27,6 @@ returns-then-not-items_fit c =
       answer = ap Err c.at.ensures ∙ all.0;
       stands = all.1;
     }
-
-pub shape_of-boxes-in_err-new : goal.shape_of-boxes-in_err-new
-shape_of-boxes-in_err-new c = c.record_first.auto.boxes
-
-pub shape_of-below-in_err-new : goal.shape_of-below-in_err-new
-shape_of-below-in_err-new c = c.record_first.auto.below
-
-pub shape_of-items-in_err-new : goal.shape_of-items-in_err-new
-shape_of-items-in_err-new c = c.record_first.auto.items
-
-pub shape_of-item_boxes-in_err-new : goal.shape_of-item_boxes-in_err-new
-shape_of-item_boxes-in_err-new c = c.record_first.auto.item_boxes
 
 pub returns-in_err-new : goal.returns-in_err-new
 returns-in_err-new c =

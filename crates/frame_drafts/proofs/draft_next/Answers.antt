@@ -20,33 +20,6 @@ diff_dirty-changed-requires c = next_stored c.args.s.now c.args.width c.args.hei
 pub draft-requires : goal.draft-requires
 draft-requires c = next_ready c.args.s.now c.args.width c.args.height c.args.band_height _ _ c.args.glyph_items.now c.args.rect_room c.args.region_room c.args.word_room _ c.in_ok-both.ensures.answer c.in_ok-both.ensures.lengths c.in_ok-both.ensures.lists _ refl _ c.items_fit.ensures c.if-not-items_fit.false c.requires.0 _ _ _ _ c.diff_dirty-changed.ensures _ _ _ _ c.requires.1
 
-pub shape_of-boxes : goal.shape_of-boxes
-shape_of-boxes c = c.record_both.auto.boxes
-
-pub shape_of-below : goal.shape_of-below
-shape_of-below c = c.record_both.auto.below
-
-pub shape_of-items : goal.shape_of-items
-shape_of-items c = c.draft.auto.spans ∙ c.record_both.auto.items
-
-pub shape_of-item_boxes : goal.shape_of-item_boxes
-shape_of-item_boxes c = c.record_both.auto.item_boxes
-
-pub shape_of-rects : goal.shape_of-rects
-shape_of-rects c = c.diff_dirty-changed.auto.rects
-
-pub shape_of-work : goal.shape_of-work
-shape_of-work c = c.draft.auto.work
-
-pub shape_of-spare : goal.shape_of-spare
-shape_of-spare c = c.draft.auto.spare
-
-pub shape_of-regions : goal.shape_of-regions
-shape_of-regions c = c.draft.auto.regions
-
-pub shape_of-words : goal.shape_of-words
-shape_of-words c = c.draft.auto.words
-
 pub returns : goal.returns
 returns c =
     let all = next_meets c.args.s.now c.args.width c.args.height c.args.band_height _ _ c.args.glyph_items.now c.args.rect_room c.args.region_room c.args.word_room _ c.in_ok-both.ensures.answer c.in_ok-both.ensures.lengths c.in_ok-both.ensures.lists _ refl _ c.items_fit.ensures c.if-not-items_fit.false _ _ _ c.diff_dirty-changed.ensures c.requires.1.rect_room _ _ _ c.draft.ensures.answer c.draft.ensures.stands in
@@ -55,18 +28,6 @@ returns c =
       stands = all.1;
     }
 
-pub shape_of-boxes-then-not-items_fit : goal.shape_of-boxes-then-not-items_fit
-shape_of-boxes-then-not-items_fit c = c.record_both.auto.boxes
-
-pub shape_of-below-then-not-items_fit : goal.shape_of-below-then-not-items_fit
-shape_of-below-then-not-items_fit c = c.record_both.auto.below
-
-pub shape_of-items-then-not-items_fit : goal.shape_of-items-then-not-items_fit
-shape_of-items-then-not-items_fit c = c.record_both.auto.items
-
-pub shape_of-item_boxes-then-not-items_fit : goal.shape_of-item_boxes-then-not-items_fit
-shape_of-item_boxes-then-not-items_fit c = c.record_both.auto.item_boxes
-
 pub returns-then-not-items_fit : goal.returns-then-not-items_fit
 returns-then-not-items_fit c =
     let all = next_over c.args.s.now c.args.width c.args.height c.args.band_height _ _ c.args.glyph_items.now c.args.rect_room c.args.region_room c.args.word_room _ c.in_ok-both.ensures.answer c.in_ok-both.ensures.lengths c.in_ok-both.ensures.lists _ refl _ c.items_fit.ensures c.if-not-items_fit.true _ _ _ in
@@ -74,18 +35,6 @@ returns-then-not-items_fit c =
       answer = ap Err c.at.ensures ∙ all.0;
       stands = all.1;
     }
-
-pub shape_of-boxes-in_err-both : goal.shape_of-boxes-in_err-both
-shape_of-boxes-in_err-both c = c.record_both.auto.boxes
-
-pub shape_of-below-in_err-both : goal.shape_of-below-in_err-both
-shape_of-below-in_err-both c = c.record_both.auto.below
-
-pub shape_of-items-in_err-both : goal.shape_of-items-in_err-both
-shape_of-items-in_err-both c = c.record_both.auto.items
-
-pub shape_of-item_boxes-in_err-both : goal.shape_of-item_boxes-in_err-both
-shape_of-item_boxes-in_err-both c = c.record_both.auto.item_boxes
 
 pub returns-in_err-both : goal.returns-in_err-both
 returns-in_err-both c =

@@ -7,33 +7,6 @@ use Rattle.frame_drafts.proofs.next_frame.Goals as goal
 pub draft_next-requires : goal.draft_next-requires
 draft_next-requires c = (header_sizes _ _ c.in_ok-sizes.ensures _ refl, c.requires)
 
-pub shape_of-boxes : goal.shape_of-boxes
-shape_of-boxes c = c.draft_next.auto.boxes
-
-pub shape_of-below : goal.shape_of-below
-shape_of-below c = c.draft_next.auto.below
-
-pub shape_of-items : goal.shape_of-items
-shape_of-items c = c.draft_next.auto.items
-
-pub shape_of-item_boxes : goal.shape_of-item_boxes
-shape_of-item_boxes c = c.draft_next.auto.item_boxes
-
-pub shape_of-rects : goal.shape_of-rects
-shape_of-rects c = c.draft_next.auto.rects
-
-pub shape_of-work : goal.shape_of-work
-shape_of-work c = c.draft_next.auto.work
-
-pub shape_of-spare : goal.shape_of-spare
-shape_of-spare c = c.draft_next.auto.spare
-
-pub shape_of-regions : goal.shape_of-regions
-shape_of-regions c = c.draft_next.auto.regions
-
-pub shape_of-words : goal.shape_of-words
-shape_of-words c = c.draft_next.auto.words
-
 pub returns : goal.returns
 returns c =
     let all = header_next _ _ c.in_ok-sizes.ensures (lent c.args.boxes.now c.args.below.now c.args.items.now c.args.item_boxes.now c.args.glyph_items.now c.args.rect_room c.args.region_room c.args.word_room) _ _ _ _ _ refl c.draft_next.ensures.answer c.draft_next.ensures.stands in

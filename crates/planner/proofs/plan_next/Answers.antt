@@ -10,45 +10,6 @@ next_frame-plan-requires c = roomy c.args.rects.now c.args.draft_rects.now c.arg
 pub publish-requires : goal.publish-requires
 publish-requires c = copies c.args.rects.now c.args.draft_rects.now c.args.work.now c.args.spare.now c.args.regions.now c.args.draft_regions.now c.args.words.now c.args.draft_words.now _ _ _ c.rect_room-rect_room.ensures c.min-region_room.ensures c.min-word_room.ensures c.args.boxes.now c.args.below.now c.args.items.now c.args.item_boxes.now c.args.glyph_items.now (next_outcome c.args.input.now) _ c.next_frame-plan.ensures.answer _ _ _ c.next_frame-plan.auto.rects c.next_frame-plan.auto.regions c.next_frame-plan.auto.words
 
-pub shape_of-rects : goal.shape_of-rects
-shape_of-rects c = c.publish.auto.rects
-
-pub shape_of-regions : goal.shape_of-regions
-shape_of-regions c = c.publish.auto.regions
-
-pub shape_of-words : goal.shape_of-words
-shape_of-words c = c.publish.auto.words
-
-pub shape_of-boxes : goal.shape_of-boxes
-shape_of-boxes c = c.clear_lists.auto.boxes ∙ c.next_frame-plan.auto.boxes
-
-pub shape_of-below : goal.shape_of-below
-shape_of-below c = c.clear_lists.auto.below ∙ c.next_frame-plan.auto.below
-
-pub shape_of-items : goal.shape_of-items
-shape_of-items c = c.clear_lists.auto.items ∙ c.next_frame-plan.auto.items
-
-pub shape_of-item_boxes : goal.shape_of-item_boxes
-shape_of-item_boxes c = c.clear_lists.auto.item_boxes ∙ c.next_frame-plan.auto.item_boxes
-
-pub shape_of-glyph_items : goal.shape_of-glyph_items
-shape_of-glyph_items c = c.clear_lists.auto.glyph_items
-
-pub shape_of-draft_rects : goal.shape_of-draft_rects
-shape_of-draft_rects c = c.clear_draft.auto.rects ∙ c.next_frame-plan.auto.rects
-
-pub shape_of-work : goal.shape_of-work
-shape_of-work c = c.clear_draft.auto.work ∙ c.next_frame-plan.auto.work
-
-pub shape_of-spare : goal.shape_of-spare
-shape_of-spare c = c.clear_draft.auto.spare ∙ c.next_frame-plan.auto.spare
-
-pub shape_of-draft_regions : goal.shape_of-draft_regions
-shape_of-draft_regions c = c.clear_draft.auto.regions ∙ c.next_frame-plan.auto.regions
-
-pub shape_of-draft_words : goal.shape_of-draft_words
-shape_of-draft_words c = c.clear_draft.auto.words ∙ c.next_frame-plan.auto.words
-
 pub returns : goal.returns
 returns c =
     let p = all_published _ (next_outcome c.args.input.now) _ c.next_frame-plan.ensures.answer c.next_frame-plan.new.rects c.next_frame-plan.new.regions c.next_frame-plan.new.words c.next_frame-plan.ensures.stands c.args.rects.now c.args.regions.now c.args.words.now _ _ _ c.publish.ensures.rectangles c.publish.ensures.scheduled c.publish.ensures.index in

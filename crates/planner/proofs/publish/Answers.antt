@@ -4,9 +4,6 @@ use native.Mathlib.Omega.{arith}
 use mathlib.Core.Path.{◌∙◌}
 use Rattle.planner.proofs.publish.Goals as goal
 
-pub enum_known-plan : goal.enum_known-plan
-enum_known-plan c = c.in-Ok.in-Ok-own.keys1
-
 pub overflow_mul-accepted : goal.overflow_mul-accepted
 overflow_mul-accepted c = let k = planned c.in-Ok.is c.requires in omega (arith, k.from_rects)
 
@@ -21,18 +18,6 @@ copy_front-requires-in-Ok c = let k = planned c.in-Ok.is c.requires in (omega (a
 
 pub copy_front-requires-in-Ok-2 : goal.copy_front-requires-in-Ok-2
 copy_front-requires-in-Ok-2 c = let k = planned c.in-Ok.is c.requires in (omega (arith, k.from_words), omega (arith, k.to_words))
-
-pub enum_told-1 : goal.enum_told-1
-enum_told-1 c = c.in-Err.in-Err-own.keys2
-
-pub shape_of-rects : goal.shape_of-rects
-shape_of-rects c = c.copy_front.auto.dst
-
-pub shape_of-regions : goal.shape_of-regions
-shape_of-regions c = c.copy_front-in-Ok.auto.dst
-
-pub shape_of-words : goal.shape_of-words
-shape_of-words c = c.copy_front-in-Ok-2.auto.dst
 
 pub returns-in-Ok : goal.returns-in-Ok
 returns-in-Ok c =
