@@ -1,9 +1,6 @@
 -- Limits as lent space, space as the slices of a call, and what an entry makes of its bytes.
 use Rattle.std.specs.Prelude.{List, ℕ, min}
-use Rattle.plans.specs.Drafts.{Outcome, first_outcome, next_outcome}
 use Rattle.plans.specs.Space.{Lent, Slices}
-use Rattle.entry_calls.specs.declared.Entry.{Entry}
-use Rattle.entry_calls.specs.declared.Entry.TheVariants.{First, Next}
 use Rattle.entry_calls.specs.declared.Limits.{Limits}
 use Rattle.entry_calls.specs.declared.Space.{Space}
 
@@ -47,8 +44,3 @@ slices_of s =
       draft_regions = s.draft_regions.items;
       draft_words = s.draft_words.items;
     }
-
--- what the bytes come to, for the entry that is called
-abbrev pub outcome : Entry → List ℕ → Outcome
-outcome First s = first_outcome s
-outcome Next s = next_outcome s

@@ -5,18 +5,13 @@ ghost use Rattle.std.specs.Prelude.{◌≡◌, IfOk};
 ghost use Rattle.plans.specs.Answers.{answer_of, index_words, published, rect_words, region_words};
 ghost use Rattle.plans.specs.Drafts.{first_outcome, next_outcome};
 ghost use Rattle.plans.specs.Space.{lent_of};
-ghost use Rattle.entry_calls.specs.Lending.{at_most, lent, outcome, slices_of};
+ghost use Rattle.entry_calls.specs.Lending.{at_most, lent, slices_of};
+ghost use Rattle.frame_drafts.specs.Scratch.{outcome};
 
+pub use frame_drafts::Entry;
 use plans::Plan;
 use refusals::Refusal;
 use std::alloc::{AllocError, Global};
-
-// Which of the two entries is called.
-#[derive(Clone, Copy)]
-pub enum Entry {
-    First,
-    Next,
-}
 
 // How many items of each kind are lent.
 #[derive(Clone, Copy)]

@@ -30,7 +30,9 @@ use Rattle.plans.specs.Drafts.{Items, Outcome, screen_rect, on_first, on_both, f
 use Rattle.plans.specs.Space.{Lent}
 use Rattle.plans.specs.Answers.{items_fit, answer_of}
 use Rattle.drafting.specs.Drafted.{draft_in, rooms, judged, StandsIf, Ready}
-use Rattle.frame_drafts.specs.Scratch.{lent, Roomy, StandsFor}
+use Rattle.frame_drafts.specs.declared.Entry.{Entry}
+use Rattle.frame_drafts.specs.declared.Entry.TheVariants.{First, Next}
+use Rattle.frame_drafts.specs.Scratch.{lent, outcome, Roomy, StandsFor}
 use Rattle.frame_drafts.proofs.Holdings.{first_within, both_within, items_same, items_room, list_length, stored_boxes}
 use Rattle.frame_drafts.proofs.Judgements.{untrue, answered, no_items}
 
@@ -191,10 +193,7 @@ module _ (s : List ℕ) (r : Result Header Refusal) (a : r ≡ header_of s) wher
     header_next sizes q e f = rw (sym (sym q ∙ a)) (e, f)
 
   module _ (z : Lent) (rs : List Float) (gs ws : List ℕ) (why : Refusal) (q : r ≡ Err why) where
-    pub header_no_first : Meets z (first_outcome s) (Err why) rs gs ws
-    unfolding first_outcome
-    header_no_first = rw (sym (sym q ∙ a)) (refl, tt)
-
-    pub header_no_next : Meets z (next_outcome s) (Err why) rs gs ws
-    unfolding next_outcome
-    header_no_next = rw (sym (sym q ∙ a)) (refl, tt)
+    pub header_none : (entry : Entry) → Meets z (outcome entry s) (Err why) rs gs ws
+    unfolding first_outcome next_outcome
+    header_none First = rw (sym (sym q ∙ a)) (refl, tt)
+    header_none Next = rw (sym (sym q ∙ a)) (refl, tt)

@@ -2,7 +2,9 @@
 use Rattle.refusals.specs.declared.Refusal.{Refusal}
 use Rattle.std.specs.Prelude.{ℕ, ◌*◌, ◌/◌, ◌≤◌, min, List, length, Float, Result}
 use Rattle.plans.specs.declared.Plan.{Plan}
-use Rattle.plans.specs.Drafts.{Outcome, turned, drafted}
+use Rattle.plans.specs.Drafts.{Outcome, turned, drafted, first_outcome, next_outcome}
+use Rattle.frame_drafts.specs.declared.Entry.{Entry}
+use Rattle.frame_drafts.specs.declared.Entry.TheVariants.{First, Next}
 use Rattle.plans.specs.Space.{Lent}
 use Rattle.drafting.specs.Drafted.{StandsIf}
 
@@ -17,6 +19,11 @@ lent bs ns is ibs glyphs rects regions words =
       regions = regions;
       words = words;
     }
+
+-- what the bytes come to, for the entry that is called
+abbrev pub outcome : Entry → List ℕ → Outcome
+outcome First s = first_outcome s
+outcome Next s = next_outcome s
 
 -- the space for the draft is as long as is said
 pub record Roomy (rs : List Float) (work spare gs ws : List ℕ) (rects regions words : ℕ) : Type 0 where

@@ -5,13 +5,20 @@
 ghost use Rattle.std.specs.Prelude.{◌≡◌, min};
 ghost use Rattle.frame.specs.Frame.{first_of, both_of};
 ghost use Rattle.scheduler.specs.Schedule.{Sizes};
-ghost use Rattle.plans.specs.Drafts.{on_first, on_both, first_outcome, next_outcome};
+ghost use Rattle.plans.specs.Drafts.{on_first, on_both};
 ghost use Rattle.plans.specs.Answers.{items_fit, answer_of};
-ghost use Rattle.frame_drafts.specs.Scratch.{lent, Roomy, StandsFor};
+ghost use Rattle.frame_drafts.specs.Scratch.{lent, outcome, Roomy, StandsFor};
 
 use geometry::Rect;
 use plans::Plan;
 use refusals::{Fault, Refusal};
+
+// Which frame a call plans: a first one, or one after another.
+#[derive(Clone, Copy, Debug, PartialEq, Eq)]
+pub enum Entry {
+    First,
+    Next,
+}
 
 // Whether scratch holds so many commands, glyphs and clips.
 #[tactic(auto, unfolding(plans::specs::Answers::items_fit))]
@@ -174,8 +181,9 @@ fn draft_next(
     )
 }
 
-// Header and one strip.
-pub fn first_frame(
+// Header and strips: one strip of a first frame, else the last accepted one and the new one.
+pub fn draft_frame(
+    entry: Entry,
     s: &[u8],
     rect_room: usize,
     region_room: usize,
@@ -192,70 +200,48 @@ pub fn first_frame(
     words: &mut [u32],
 ) -> Result<Plan, Refusal>
     requires { Roomy rects.old work.old spare.old regions.old words.old rect_room region_room word_room }
-    ensures answer { result ≡ answer_of (lent boxes.old below.old items.old item_boxes.old glyph_items.now rect_room region_room word_room) (first_outcome s.now) }
-    ensures stands { StandsFor result (first_outcome s.now) rects.new regions.new words.new }
+    ensures answer { result ≡ answer_of (lent boxes.old below.old items.old item_boxes.old glyph_items.now rect_room region_room word_room) (outcome entry s.now) }
+    ensures stands { StandsFor result (outcome entry s.now) rects.new regions.new words.new }
 {
     let sizes = frame::read_header(s)?;
-    draft_first(
-        s,
-        sizes.width,
-        sizes.height,
-        sizes.band_height,
-        rect_room,
-        region_room,
-        word_room,
-        boxes,
-        below,
-        items,
-        item_boxes,
-        glyph_items,
-        rects,
-        work,
-        spare,
-        regions,
-        words,
-    )
-}
-
-// Header, the last accepted strip and the new one.
-pub fn next_frame(
-    s: &[u8],
-    rect_room: usize,
-    region_room: usize,
-    word_room: usize,
-    boxes: &mut [f64],
-    below: &mut [u64],
-    items: &mut [u64],
-    item_boxes: &mut [f64],
-    glyph_items: &[u64],
-    rects: &mut [f64],
-    work: &mut [u64],
-    spare: &mut [u64],
-    regions: &mut [u32],
-    words: &mut [u32],
-) -> Result<Plan, Refusal>
-    requires { Roomy rects.old work.old spare.old regions.old words.old rect_room region_room word_room }
-    ensures answer { result ≡ answer_of (lent boxes.old below.old items.old item_boxes.old glyph_items.now rect_room region_room word_room) (next_outcome s.now) }
-    ensures stands { StandsFor result (next_outcome s.now) rects.new regions.new words.new }
-{
-    let sizes = frame::read_header(s)?;
-    draft_next(
-        s,
-        sizes.width,
-        sizes.height,
-        sizes.band_height,
-        rect_room,
-        region_room,
-        word_room,
-        boxes,
-        below,
-        items,
-        item_boxes,
-        glyph_items,
-        rects,
-        work,
-        spare,
-        regions,
-        words,
-    )
+    match entry {
+        Entry::First => draft_first(
+            s,
+            sizes.width,
+            sizes.height,
+            sizes.band_height,
+            rect_room,
+            region_room,
+            word_room,
+            boxes,
+            below,
+            items,
+            item_boxes,
+            glyph_items,
+            rects,
+            work,
+            spare,
+            regions,
+            words,
+        ),
+        Entry::Next => draft_next(
+            s,
+            sizes.width,
+            sizes.height,
+            sizes.band_height,
+            rect_room,
+            region_room,
+            word_room,
+            boxes,
+            below,
+            items,
+            item_boxes,
+            glyph_items,
+            rects,
+            work,
+            spare,
+            regions,
+            words,
+        ),
+    }
 }

@@ -6,8 +6,10 @@ ghost use Rattle.std.specs.Prelude.{◌≡◌, ◌++◌, ◌/◌, min, length, t
 ghost use Rattle.plans.specs.Drafts.{first_outcome, next_outcome};
 ghost use Rattle.plans.specs.Space.{lent_of};
 ghost use Rattle.plans.specs.Answers as Answers;
+ghost use Rattle.frame_drafts.specs.Scratch.{outcome};
 ghost use Rattle.planner.specs.Calls.{slices, rect_count, region_count, word_count, Copies, Zeros, ZeroFloats};
 
+use frame_drafts::Entry;
 use plans::Plan;
 use refusals::Refusal;
 
@@ -78,8 +80,9 @@ fn clear_draft(
     words.fill(0);
 }
 
-// A first frame: header and one strip. Any bytes and any lent space will do.
-pub fn plan_first(
+// Either entry. Any bytes and any lent space will do.
+fn plan(
+    entry: Entry,
     input: &[u8],
     rects: &mut [f64],
     regions: &mut [u32],
@@ -95,16 +98,17 @@ pub fn plan_first(
     draft_regions: &mut [u32],
     draft_words: &mut [u32],
 ) -> Result<Plan, Refusal>
-    ensures answer { result ≡ Answers.answer_of (lent_of (slices rects.old regions.old words.old boxes.old below.old items.old item_boxes.old glyph_items.old draft_rects.old work.old spare.old draft_regions.old draft_words.old)) (first_outcome input.now) }
-    ensures rectangles { rects.new ≡ Answers.published result (Answers.rect_words (first_outcome input.now)) rects.old }
-    ensures scheduled { regions.new ≡ Answers.published result (Answers.region_words (first_outcome input.now)) regions.old }
-    ensures index { words.new ≡ Answers.published result (Answers.index_words (first_outcome input.now)) words.old }
+    ensures answer { result ≡ Answers.answer_of (lent_of (slices rects.old regions.old words.old boxes.old below.old items.old item_boxes.old glyph_items.old draft_rects.old work.old spare.old draft_regions.old draft_words.old)) (outcome entry input.now) }
+    ensures rectangles { rects.new ≡ Answers.published result (Answers.rect_words (outcome entry input.now)) rects.old }
+    ensures scheduled { regions.new ≡ Answers.published result (Answers.region_words (outcome entry input.now)) regions.old }
+    ensures index { words.new ≡ Answers.published result (Answers.index_words (outcome entry input.now)) words.old }
     ensures scratch { (ZeroFloats boxes.old boxes.new) × (Zeros below.old below.new) × (Zeros items.old items.new) × (ZeroFloats item_boxes.old item_boxes.new) × (Zeros glyph_items.old glyph_items.new) × (ZeroFloats draft_rects.old draft_rects.new) × (Zeros work.old work.new) × (Zeros spare.old spare.new) × (Zeros draft_regions.old draft_regions.new) × (Zeros draft_words.old draft_words.new) }
 {
     let rect_room = rect_room(rects, draft_rects, work, spare);
     let region_room = (regions.len() / 4).min(draft_regions.len() / 4);
     let word_room = words.len().min(draft_words.len());
-    let plan = frame_drafts::first_frame(
+    let plan = frame_drafts::draft_frame(
+        entry,
         input,
         rect_room,
         region_room,
@@ -134,6 +138,48 @@ pub fn plan_first(
     plan
 }
 
+// A first frame: header and one strip. Any bytes and any lent space will do.
+pub fn plan_first(
+    input: &[u8],
+    rects: &mut [f64],
+    regions: &mut [u32],
+    words: &mut [u32],
+    boxes: &mut [f64],
+    below: &mut [u64],
+    items: &mut [u64],
+    item_boxes: &mut [f64],
+    glyph_items: &mut [u64],
+    draft_rects: &mut [f64],
+    work: &mut [u64],
+    spare: &mut [u64],
+    draft_regions: &mut [u32],
+    draft_words: &mut [u32],
+) -> Result<Plan, Refusal>
+    ensures answer { result ≡ Answers.answer_of (lent_of (slices rects.old regions.old words.old boxes.old below.old items.old item_boxes.old glyph_items.old draft_rects.old work.old spare.old draft_regions.old draft_words.old)) (first_outcome input.now) }
+    ensures rectangles { rects.new ≡ Answers.published result (Answers.rect_words (first_outcome input.now)) rects.old }
+    ensures scheduled { regions.new ≡ Answers.published result (Answers.region_words (first_outcome input.now)) regions.old }
+    ensures index { words.new ≡ Answers.published result (Answers.index_words (first_outcome input.now)) words.old }
+    ensures scratch { (ZeroFloats boxes.old boxes.new) × (Zeros below.old below.new) × (Zeros items.old items.new) × (ZeroFloats item_boxes.old item_boxes.new) × (Zeros glyph_items.old glyph_items.new) × (ZeroFloats draft_rects.old draft_rects.new) × (Zeros work.old work.new) × (Zeros spare.old spare.new) × (Zeros draft_regions.old draft_regions.new) × (Zeros draft_words.old draft_words.new) }
+{
+    plan(
+        Entry::First,
+        input,
+        rects,
+        regions,
+        words,
+        boxes,
+        below,
+        items,
+        item_boxes,
+        glyph_items,
+        draft_rects,
+        work,
+        spare,
+        draft_regions,
+        draft_words,
+    )
+}
+
 // A frame after another: header, the last accepted strip and the new one. Any bytes and any lent space will do.
 pub fn plan_next(
     input: &[u8],
@@ -157,14 +203,12 @@ pub fn plan_next(
     ensures index { words.new ≡ Answers.published result (Answers.index_words (next_outcome input.now)) words.old }
     ensures scratch { (ZeroFloats boxes.old boxes.new) × (Zeros below.old below.new) × (Zeros items.old items.new) × (ZeroFloats item_boxes.old item_boxes.new) × (Zeros glyph_items.old glyph_items.new) × (ZeroFloats draft_rects.old draft_rects.new) × (Zeros work.old work.new) × (Zeros spare.old spare.new) × (Zeros draft_regions.old draft_regions.new) × (Zeros draft_words.old draft_words.new) }
 {
-    let rect_room = rect_room(rects, draft_rects, work, spare);
-    let region_room = (regions.len() / 4).min(draft_regions.len() / 4);
-    let word_room = words.len().min(draft_words.len());
-    let plan = frame_drafts::next_frame(
+    plan(
+        Entry::Next,
         input,
-        rect_room,
-        region_room,
-        word_room,
+        rects,
+        regions,
+        words,
         boxes,
         below,
         items,
@@ -175,17 +219,5 @@ pub fn plan_next(
         spare,
         draft_regions,
         draft_words,
-    );
-    publish(
-        plan,
-        draft_rects,
-        draft_regions,
-        draft_words,
-        rects,
-        regions,
-        words,
-    );
-    clear_lists(boxes, below, items, item_boxes, glyph_items);
-    clear_draft(draft_rects, work, spare, draft_regions, draft_words);
-    plan
+    )
 }
