@@ -1,12 +1,13 @@
 -- What lent space holds after a box is stored: that box, and every box beside it as before. Assumes nothing.
-use mathlib.Core.Path.{◌≡◌}
-use mathlib.Core.List.{List}
-use Prim.Native.Nat.{ℕ, ◌+◌, ◌≤◌, ◌<◌}
+use mathlib.Core.Path.{◌≡◌, refl, sym, ap, ◌∙◌}
+use mathlib.Core.List.{List, [], ◌∷◌, ◌++◌}
+use Prim.Native.Nat.{ℕ, zero, suc, ◌+◌, ◌≤◌, ◌<◌}
 use native.Mathlib.Omega.{arith}
-use lib.ListN.{length, get_or, set, length-set}
+use lib.ListN.{length, take, drop, get_or, set, length-set}
 use lib.Seq.{get_or-set_same, get_or-set_other}
 use lib.Ieee.{Float, nan}
 use Rattle.geometry.specs.declared.Rect.{Rect}
+use Rattle.geometry.specs.Boxes.{edges}
 use Rattle.rect_words.specs.Words.{rect_at, put_rect}
 
 pub length_put : (ws : List Float) (i : ℕ) (b : Rect) → length (put_rect ws i b) ≡ length ws
@@ -83,3 +84,22 @@ rect_behind ws i j b h = λ k. record {
   x1 = word_behind ws i (j + 2) b (omega arith) k;
   y1 = word_behind ws i (j + 3) b (omega arith) k;
 }
+
+-- four words stored at once
+module _ (b : Rect) where
+  stored : (i : ℕ) (ws : List Float) → i + 4 ≤ length ws → take i ws ++ (edges b ++ drop 4 (drop i ws)) ≡ put_rect ws i b
+  unfolding put_rect
+  stored zero [] h = absurd (omega arith)
+  stored zero (w ∷ []) h = absurd (omega arith)
+  stored zero (w ∷ x ∷ []) h = absurd (omega arith)
+  stored zero (w ∷ x ∷ y ∷ []) h = absurd (omega arith)
+  stored zero (w ∷ x ∷ y ∷ z ∷ ws) h = refl
+  stored (suc i) [] h = absurd (omega arith)
+  stored (suc i) (w ∷ ws) h =
+      let p : suc i + 1 ≡ suc (i + 1) = omega arith in
+      let q : suc i + 2 ≡ suc (i + 2) = omega arith in
+      let r : suc i + 3 ≡ suc (i + 3) = omega arith in
+      ap (λ l. w ∷ l) (stored i ws (omega arith)) ∙ sym (λ j. set (set (set (set (w ∷ ws) (suc i) b.x0) (p j) b.y0) (q j) b.x1) (r j) b.y1)
+
+  pub stored_once : (i k : ℕ) (ws es : List Float) → k ≡ 4 → es ≡ edges b → i + 4 ≤ length ws → take i ws ++ (es ++ drop k (drop i ws)) ≡ put_rect ws i b
+  stored_once i k ws es e f h = (λ j. take i ws ++ (f j ++ drop (e j) (drop i ws))) ∙ stored i ws h

@@ -11,22 +11,14 @@ pub fn rect_at(words: &[f64], i: usize) -> Rect
     requires { i + 4 ≤ length words.now }
     ensures { result ≡ Words.rect_at words.now i }
 {
-    Rect {
-        x0: words[i],
-        y0: words[i + 1],
-        x1: words[i + 2],
-        y1: words[i + 3],
-    }
+    Rect::from([words[i], words[i + 1], words[i + 2], words[i + 3]])
 }
 
 // Stores a box from i on.
-#[tactic(auto, unfolding(crate::specs::Words::put_rect))]
+#[tactic(auto, using(crate::proofs::Stores::stored_once))]
 pub fn put_rect(words: &mut [f64], i: usize, rect: Rect)
     requires { i + 4 ≤ length words.old }
     ensures { words.new ≡ Words.put_rect words.old i rect }
 {
-    words[i] = rect.x0;
-    words[i + 1] = rect.y0;
-    words[i + 2] = rect.x1;
-    words[i + 3] = rect.y1;
+    words[i..i + 4].copy_from_slice(&<[f64; 4]>::from(rect));
 }
