@@ -1,5 +1,5 @@
 -- Affines and transformed boxes, as document 01 gives kurbo's.
-use Rattle.std.specs.Prelude.{Bool, ◌&&◌, List, get_or, Float, Option, Some, None}
+use Rattle.std.specs.Prelude.{Bool, ◌&&◌, List, [], ◌∷◌, get_or, Float, Option, Some, None}
 use Rattle.std.specs.Float.{nan, binary64}
 use Rattle.std.specs.Float.Ieee.{add, mul}
 use Rattle.std.specs.Float.Ieee.Scale.{finite}
@@ -25,6 +25,16 @@ of_entries ts = record { a = get_or ts 0 nan; b = get_or ts 1 nan; c = get_or ts
 -- "The affine sends (x, y) to (a times x + c times y + e, b times x + d times y + f), each operation rounded once, left to right."
 abbrev pub transform_point : Affine → Float → Float → Point
 transform_point t x y = record { x = t.a ⊗ x ⊕ t.c ⊗ y ⊕ t.e; y = t.b ⊗ x ⊕ t.d ⊗ y ⊕ t.f }
+
+-- the corners of a box, transformed
+abbrev pub corners : Affine → Rect → List Point
+corners t b = transform_point t b.x0 b.y0 ∷ transform_point t b.x1 b.y0 ∷ transform_point t b.x0 b.y1 ∷ transform_point t b.x1 b.y1 ∷ []
+
+-- a function of four points, of the first four of a list; no code has fewer
+abbrev pub of_points : {A : Type 0} → (Point → Point → Point → Point → A) → List Point → A
+of_points f ps =
+    let nowhere : Point = record { x = nan; y = nan } in
+    f (get_or ps 0 nowhere) (get_or ps 1 nowhere) (get_or ps 2 nowhere) (get_or ps 3 nowhere)
 
 -- the least of four numbers, and the greatest
 abbrev pub least : Float → Float → Float → Float → Float

@@ -46,9 +46,10 @@ fn greatest(p: f64, q: f64, r: f64, s: f64) -> f64
 
 // The least box over four points.
 #[tactic(auto, unfolding(crate::specs::Affines::bounding_box))]
-fn bounding_box(p: Point, q: Point, r: Point, s: Point) -> Rect
-    ensures { result ≡ Affines.bounding_box p q r s }
+fn bounding_box(corners: [Point; 4]) -> Rect
+    ensures { result ≡ Affines.of_points Affines.bounding_box corners }
 {
+    let [p, q, r, s] = corners;
     Rect {
         x0: least(p.x, q.x, r.x, s.x),
         y0: least(p.y, q.y, r.y, s.y),
@@ -60,23 +61,13 @@ fn bounding_box(p: Point, q: Point, r: Point, s: Point) -> Rect
 // Whether four points are finite, by one sum: a number less itself is 0, or a NaN where it is not finite, and a sum keeps a NaN. So
 // there is one test, and not eight. The points are tested and not their box, since the larger and the smaller of two can hide a NaN.
 #[tactic(auto, using(crate::proofs::Answers::sum_tells))]
-fn all_finite(p: Point, q: Point, r: Point, s: Point) -> bool
-    ensures { result ≡ Affines.all_finite p q r s }
+fn all_finite(corners: [Point; 4]) -> bool
+    ensures { result ≡ Affines.of_points Affines.all_finite corners }
 {
+    let [p, q, r, s] = corners;
     let x = (p.x - p.x) + (q.x - q.x) + (r.x - r.x) + (s.x - s.x);
     let y = (p.y - p.y) + (q.y - q.y) + (r.y - r.y) + (s.y - s.y);
     x + y == 0.0
-}
-
-// The least box over four points; none where one of them is infinite or a NaN.
-#[tactic(auto, unfolding(crate::specs::Affines::bound_finite))]
-fn bound_finite(p: Point, q: Point, r: Point, s: Point) -> Option<Rect>
-    ensures { result ≡ Affines.bound_finite p q r s }
-{
-    if all_finite(p, q, r, s) {
-        return Some(bounding_box(p, q, r, s));
-    }
-    None
 }
 
 impl Affine {
@@ -89,17 +80,24 @@ impl Affine {
         }
     }
 
+    // The corners of a box, transformed.
+    fn corners(self, rect: Rect) -> [Point; 4]
+        ensures { result ≡ Affines.corners self rect }
+    {
+        [
+            self.transform_point(rect.x0, rect.y0),
+            self.transform_point(rect.x1, rect.y0),
+            self.transform_point(rect.x0, rect.y1),
+            self.transform_point(rect.x1, rect.y1),
+        ]
+    }
+
     // The least box over the four transformed corners.
     #[tactic(auto, unfolding(crate::specs::Affines::transform_rect_bbox))]
     pub fn transform_rect_bbox(self, rect: Rect) -> Rect
         ensures { result ≡ Affines.transform_rect_bbox self rect }
     {
-        bounding_box(
-            self.transform_point(rect.x0, rect.y0),
-            self.transform_point(rect.x1, rect.y0),
-            self.transform_point(rect.x0, rect.y1),
-            self.transform_point(rect.x1, rect.y1),
-        )
+        bounding_box(self.corners(rect))
     }
 
     // Whether all four transformed corners are finite, where their box is not wanted.
@@ -107,24 +105,18 @@ impl Affine {
     pub fn finite_corners(self, rect: Rect) -> bool
         ensures { result ≡ Affines.finite_corners self rect }
     {
-        all_finite(
-            self.transform_point(rect.x0, rect.y0),
-            self.transform_point(rect.x1, rect.y0),
-            self.transform_point(rect.x0, rect.y1),
-            self.transform_point(rect.x1, rect.y1),
-        )
+        all_finite(self.corners(rect))
     }
 
     // The same box; none where a corner is infinite or a NaN.
-    #[tactic(auto, unfolding(crate::specs::Affines::try_transform))]
+    #[tactic(auto, unfolding(crate::specs::Affines::try_transform, crate::specs::Affines::bound_finite))]
     pub fn try_transform(self, rect: Rect) -> Option<Rect>
         ensures { result ≡ Affines.try_transform self rect }
     {
-        bound_finite(
-            self.transform_point(rect.x0, rect.y0),
-            self.transform_point(rect.x1, rect.y0),
-            self.transform_point(rect.x0, rect.y1),
-            self.transform_point(rect.x1, rect.y1),
-        )
+        let corners = self.corners(rect);
+        if all_finite(corners) {
+            return Some(bounding_box(corners));
+        }
+        None
     }
 }

@@ -45,7 +45,7 @@ pub struct Glyph {
 
 // One draw operation. Paths, brushes, fonts, scenes and targets are numbers, equal for equal things. The
 // clips and a run's glyphs are kept elsewhere.
-#[derive(Clone, Copy)]
+#[derive(Clone, Copy, Debug)]
 pub enum DrawCommand {
     FillPath {
         path: u64,
@@ -82,9 +82,8 @@ fn join_scale(join: Join, miter_limit: f64) -> f64
     ensures { result ≡ Strokes.join_scale join miter_limit }
 {
     match join {
-        Join::Bevel => 1.0,
         Join::Miter => floats::larger(miter_limit, 1.0),
-        Join::Round => 1.0,
+        Join::Bevel | Join::Round => 1.0,
     }
 }
 
@@ -93,24 +92,19 @@ fn cap_scale(cap: Cap, rest: f64) -> f64
     ensures { result ≡ Strokes.cap_scale cap rest }
 {
     match cap {
-        Cap::Butt => rest,
-        Cap::Square => 1.4142135623730951,
-        Cap::Round => rest,
+        Cap::Square => std::f64::consts::SQRT_2,
+        Cap::Butt | Cap::Round => rest,
     }
 }
 
 // How far a stroke reaches beyond the box of its path.
+#[tactic(auto, unfolding(crate::specs::Strokes::stroke_bounds_inflation))]
 pub fn stroke_bounds_inflation(stroke: Stroke) -> f64
     ensures { result ≡ Strokes.stroke_bounds_inflation stroke }
 {
-    let width = stroke.width;
-    let join = stroke.join;
-    let limit = stroke.miter_limit;
-    let start = stroke.start_cap;
-    let end = stroke.end_cap;
-    let joins = join_scale(join, limit);
-    let caps = cap_scale(start, cap_scale(end, 1.0));
-    width / 2.0 * floats::larger(joins, caps)
+    let joins = join_scale(stroke.join, stroke.miter_limit);
+    let caps = cap_scale(stroke.start_cap, cap_scale(stroke.end_cap, 1.0));
+    stroke.width / 2.0 * floats::larger(joins, caps)
 }
 
 impl DrawCommand {
@@ -118,10 +112,10 @@ impl DrawCommand {
         ensures { result ≡ Bounds.transform_of self }
     {
         match self {
-            DrawCommand::FillPath { transform, .. } => transform,
-            DrawCommand::StrokePath { transform, .. } => transform,
-            DrawCommand::GlyphRun { transform, .. } => transform,
-            DrawCommand::Scene { transform, .. } => transform,
+            DrawCommand::FillPath { transform, .. }
+            | DrawCommand::StrokePath { transform, .. }
+            | DrawCommand::GlyphRun { transform, .. }
+            | DrawCommand::Scene { transform, .. } => transform,
         }
     }
 
@@ -131,7 +125,7 @@ impl DrawCommand {
         ensures { result ≡ Bounds.local_with self united }
     {
         match self {
-            DrawCommand::FillPath { bounds, .. } => bounds,
+            DrawCommand::FillPath { bounds, .. } | DrawCommand::Scene { bounds, .. } => bounds,
             DrawCommand::StrokePath { bounds, stroke, .. } => {
                 let inflation = stroke_bounds_inflation(stroke);
                 bounds.inflate(inflation, inflation)
@@ -139,7 +133,6 @@ impl DrawCommand {
             DrawCommand::GlyphRun { bounds, glyphs, .. } => {
                 if glyphs == 0 { bounds } else { united }
             }
-            DrawCommand::Scene { bounds, .. } => bounds,
         }
     }
 
@@ -147,8 +140,6 @@ impl DrawCommand {
     pub fn try_bounds(self, united: Rect) -> Option<Rect>
         ensures { result ≡ Bounds.try_with self united }
     {
-        let transform = self.transform();
-        let local = self.local_bounds(united);
-        transform.try_transform(local)
+        self.transform().try_transform(self.local_bounds(united))
     }
 }

@@ -3,7 +3,6 @@ use Rattle.std.proofs.Common.{Option, Some, None}
 use mathlib.Core.Path.{◌≡◌, sym, ◌∙◌}
 use mathlib.Core.Bool.{Bool, true, false, ◌&&◌}
 use Prim.Native.Nat.{ℕ, ◌+◌, ◌-◌, ◌*◌, ◌^◌, ◌≤◌, ◌<◌, min}
-use native.Mathlib.Nat.{mul-le-mul}
 use native.Mathlib.Omega.{arith}
 use lib.Dec.{T, leb, ltb, leb→le, ltb→lt, lt→ltb}
 use lib.Ieee.{Float}
@@ -45,14 +44,6 @@ low_cut a b u v w h = by_le (min u w) (min a w)
     (λ k. by_le (min v h) (min b h)
     (λ l. sym (between_flat (min a w) (min b h) (min u w) (min v h) l) ∙ between_flat a b (min u w) (min v h) (omega arith))
     (λ l. let e : min a w ≡ a = omega arith in let f : min b h ≡ b = omega arith in λ i. between (e i) (f i) (min u w) (min v h)))
-
--- the pixels of a region are less than 2 ^ 64
-pub area_below : (w h : ℕ) → w < 2 ^ 32 → h < 2 ^ 32 → w * h < 2 ^ 64
-area_below w h f g =
-    let a : w ≤ 2 ^ 32 - 1 = omega arith in
-    let b : h ≤ 2 ^ 32 - 1 = omega arith in
-    let k : w * h ≤ (2 ^ 32 - 1) * (2 ^ 32 - 1) = mul-le-mul a b in
-    omega arith
 
 -- ---- the pixels of a region
 Inside : ℕ → ℕ → ℕ → Bool

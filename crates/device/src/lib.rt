@@ -8,7 +8,7 @@ ghost use Rattle.device.specs.Region as Region;
 use geometry::Rect;
 
 // An axis-aligned region in whole device pixels, x and y at the top left.
-#[derive(Clone, Copy)]
+#[derive(Clone, Copy, PartialEq, Eq, Debug)]
 pub struct DeviceRegion {
     pub x: u32,
     pub y: u32,
@@ -33,6 +33,22 @@ fn between(x: u32, y: u32, right: u32, bottom: u32) -> Option<DeviceRegion>
 }
 
 impl DeviceRegion {
+    // The first column past the region.
+    pub fn right(self) -> u32
+        requires { Region.Fit self }
+        ensures { result ≡ Region.right self }
+    {
+        self.x + self.width
+    }
+
+    // The first row below the region.
+    pub fn bottom(self) -> u32
+        requires { Region.Fit self }
+        ensures { result ≡ Region.bottom self }
+    {
+        self.y + self.height
+    }
+
     // The pixels of a screen that a box meets: its edges rounded outward and cut to the screen,
     // nothing where no pixel is left.
     #[tactic(auto, using(crate::proofs::Regions::low_cut))]
@@ -55,8 +71,8 @@ impl DeviceRegion {
     {
         let x = self.x.max(other.x);
         let y = self.y.max(other.y);
-        let right = (self.x + self.width).min(other.x + other.width);
-        let bottom = (self.y + self.height).min(other.y + other.height);
+        let right = self.right().min(other.right());
+        let bottom = self.bottom().min(other.bottom());
         between(x, y, right, bottom)
     }
 
@@ -69,8 +85,8 @@ impl DeviceRegion {
     {
         let x = self.x.min(other.x);
         let y = self.y.min(other.y);
-        let right = (self.x + self.width).max(other.x + other.width);
-        let bottom = (self.y + self.height).max(other.y + other.height);
+        let right = self.right().max(other.right());
+        let bottom = self.bottom().max(other.bottom());
         DeviceRegion {
             x,
             y,
