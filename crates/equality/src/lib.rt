@@ -6,10 +6,10 @@ ghost use Rattle.std.specs.Prelude.{◌≡◌};
 ghost use Rattle.equality.specs.Drawings as Drawings;
 
 use commands::DrawCommand;
-use operand_equality::{same_affine, same_bits, same_path, stroke_eq};
+use operand_equality::{same_bits, stroke_eq};
 
 // Whether all operands are equal: dew's equality of commands, but for clips and glyphs.
-#[tactic(auto, unfolding(crate::specs::Drawings::same_drawing, crate::specs::Drawings::same_fill, crate::specs::Drawings::same_stroked, crate::specs::Drawings::same_run, crate::specs::Drawings::same_scene, operand_equality::specs::Operands::same_affine, geometry::specs::Boxes::same_edges,))]
+#[tactic(auto, unfolding(crate::specs::Drawings::same_drawing, crate::specs::Drawings::same_fill, crate::specs::Drawings::same_stroked, crate::specs::Drawings::same_run, crate::specs::Drawings::same_scene, operand_equality::specs::Operands::same_path, operand_equality::specs::Operands::same_affine, geometry::specs::Boxes::same_edges,))]
 pub fn same_drawing(old: DrawCommand, new: DrawCommand) -> bool
     ensures { result ≡ Drawings.same_drawing old new }
 {
@@ -27,7 +27,7 @@ pub fn same_drawing(old: DrawCommand, new: DrawCommand) -> bool
                 transform: t,
                 brush: c,
             },
-        ) => same_path(path, bounds, transform, brush, p, b, t, c),
+        ) => (path, bounds, transform, brush) == (p, b, t, c),
         (
             DrawCommand::StrokePath {
                 path,
@@ -43,7 +43,7 @@ pub fn same_drawing(old: DrawCommand, new: DrawCommand) -> bool
                 stroke: s,
                 brush: c,
             },
-        ) => same_path(path, bounds, transform, brush, p, b, t, c) && stroke_eq(stroke, s),
+        ) => (path, bounds, transform, brush) == (p, b, t, c) && stroke_eq(stroke, s),
         (
             DrawCommand::GlyphRun {
                 font,
@@ -91,7 +91,7 @@ pub fn fills_alike(old: DrawCommand, new: DrawCommand) -> bool
 }
 
 // Whether both are runs of one font, size in bits, affine and brush; the clips are compared apart.
-#[tactic(auto, unfolding(crate::specs::Drawings::runs_alike, crate::specs::Drawings::run_alike))]
+#[tactic(auto, unfolding(crate::specs::Drawings::runs_alike, crate::specs::Drawings::run_alike, operand_equality::specs::Operands::same_affine))]
 pub fn runs_alike(old: DrawCommand, new: DrawCommand) -> bool
     ensures { result ≡ Drawings.runs_alike old new }
 {
@@ -111,7 +111,7 @@ pub fn runs_alike(old: DrawCommand, new: DrawCommand) -> bool
                 brush: c,
                 ..
             },
-        ) => font == f && same_bits(font_size, s) && same_affine(transform, t) && brush == c,
+        ) => font == f && same_bits(font_size, s) && transform == t && brush == c,
         _ => false,
     }
 }
