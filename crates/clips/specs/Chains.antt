@@ -1,6 +1,6 @@
 -- Clips in lent space as lists of boxes. Clip number x, from 1, has eight words of `bs`, its own box and the box of all clips up to it, and one word
 -- of `ns`, the number of the clip below it; 0 is none.
-use Rattle.std.specs.Prelude.{◌≡◌, List, [], ◌∷◌, ◌++◌, ℕ, zero, suc, ◌+◌, ◌-◌, ◌*◌, ◌≤◌, ◌<◌, eqb, length, get_or, Float}
+use Rattle.std.specs.Prelude.{◌≡◌, List, [], ◌∷◌, ◌++◌, ℕ, zero, suc, ◌+◌, ◌-◌, ◌*◌, ◌≤◌, ◌<◌, eqb, length, get_or, Float, Option, Some, None}
 use Rattle.lists.specs.Pick.{pick}
 use Rattle.geometry.specs.declared.Rect.{Rect}
 use Rattle.geometry.specs.Boxes.{intersect}
@@ -24,6 +24,10 @@ chain_from (suc k) bs ns x = pick (eqb x 0) [] (chain_from k bs ns (below_at ns 
 -- where the number below is always smaller, x steps are enough
 abbrev pub chain : List Float → List ℕ → ℕ → List Rect
 chain bs ns x = chain_from x bs ns x
+
+-- the second box of number x, where it is no 0
+unfoldable pub all_up_to : List Float → ℕ → Option Rect
+all_up_to bs x = pick (eqb x 0) None (Some (all_at bs x))
 
 -- a box cut by the clips up to number x: document 01's "intersected with the active clip box where a clip is open"
 unfoldable pub clip_rect : List Float → ℕ → Rect → Rect

@@ -8,38 +8,34 @@ ghost use Rattle.clips.specs.Chains as Chains;
 
 use geometry::Rect;
 
-// The box of all clips up to a number, of one at least.
-fn box_of_all(boxes: &[f64], number: u64) -> Rect
-    requires { (0 < number) × (8 * number ≤ length boxes.now) }
-    ensures { result ≡ Chains.all_at boxes.now number }
+// The box of all clips up to a number; none where no clip is open.
+#[tactic(auto, unfolding(crate::specs::Chains::all_up_to))]
+fn box_of_all(boxes: &[f64], number: u64) -> Option<Rect>
+    requires { 8 * number ≤ length boxes.now }
+    ensures { result ≡ Chains.all_up_to boxes.now number }
 {
-    let at = 8 * (number as usize - 1);
-    rect_words::rect_at(boxes, at + 4)
+    match number {
+        0 => None,
+        x => Some(rect_words::rect_at(boxes, 8 * (x as usize - 1) + 4)),
+    }
 }
 
 // A box cut by all clips up to a number.
-#[tactic(auto, unfolding(crate::specs::Chains::clip_rect))]
+#[tactic(auto, unfolding(crate::specs::Chains::clip_rect, crate::specs::Chains::all_up_to))]
 pub fn clip_rect(boxes: &[f64], number: u64, rect: Rect) -> Rect
     requires { 8 * number ≤ length boxes.now }
     ensures { result ≡ Chains.clip_rect boxes.now number rect }
 {
-    if number == 0 {
-        return rect;
-    }
-    rect.intersect(box_of_all(boxes, number))
+    box_of_all(boxes, number).map_or(rect, |all| rect.intersect(all))
 }
 
 // The box of all clips for one more on top of a number.
-#[tactic(auto, unfolding(crate::specs::Chains::all_with))]
+#[tactic(auto, unfolding(crate::specs::Chains::all_with, crate::specs::Chains::all_up_to))]
 fn all_with(boxes: &[f64], top: u64, rect: Rect) -> Rect
     requires { 8 * top ≤ length boxes.now }
     ensures { result ≡ Chains.all_with boxes.now top rect }
 {
-    if top == 0 {
-        return rect;
-    }
-    let all = box_of_all(boxes, top);
-    all.intersect(rect)
+    box_of_all(boxes, top).map_or(rect, |all| all.intersect(rect))
 }
 
 // Stores the clip after n others, on top of a number.

@@ -48,6 +48,7 @@ fn around(rect: Rect, overlap: Rect) -> [Option<Rect>; 4]
 
 // What is left of a box outside another; all of it where the two have no area in common. It is dew's list of at
 // most four boxes, by value: none is what has no area.
+#[tactic(auto, using(crate::proofs::Answers::parted, crate::proofs::Answers::apart))]
 pub fn rect_difference(rect: Rect, subtract: Rect) -> [Option<Rect>; 4]
     ensures { Differences.list_of result ≡ Differences.rect_difference rect subtract }
 {
