@@ -26,6 +26,7 @@ pub fn smaller(a: f64, b: f64) -> f64
 }
 
 // x rounded down, not below 0 and not above the largest u64: Rust's `x as u64`.
+#[tactic(auto, using(crate::proofs::Tests::cast_floor))]
 pub fn floor_u64(x: f64) -> u64
     ensures { result ≡ min (Whole.floor x) (2 ^ 64 - 1) }
 {
@@ -44,15 +45,15 @@ pub fn ceil_to(x: f64, limit: u32) -> u32
     ensures { result ≡ min (Whole.ceil x) limit }
 {
     let below = floor_to(x, limit);
-    if below < limit {
-        let back = f64::from(below);
-        if back < x { below + 1 } else { below }
+    if below < limit && f64::from(below) < x {
+        below + 1
     } else {
-        limit
+        below
     }
 }
 
 // The greatest f64 below y. Minus infinity and a NaN, which have none, are handed back.
+#[tactic(auto, using(crate::proofs::LibraryNext::library_next))]
 pub fn next_down(y: f64) -> f64
     ensures { result ≡ Next.next_down y }
 {

@@ -6,24 +6,24 @@ use Rattle.floats.specs.Whole.{whole, floor}
 use Rattle.floats.proofs.Wholes.{ceil_more, floor_ceil}
 use Rattle.floats.proofs.Tests.{ceil_not_more}
 use Rattle.floats.proofs.ceil_to.Goals as goal
+use Rattle.floats.proofs.ceil_to.Goals.{else-below-limit-via-then-below-limit+else-from-x, else-below-limit-via-else-below-limit}
 
-pub returns-then-back-x : goal.returns-then-back-x
-returns-then-back-x c =
-    let below-is : c.floor_to-below.result ≡ floor c.args.x = omega arith in
-    let test-is : (let x = c.args.x in lt (whole (floor x)) x ≡ lt c.from-back.result x) = let x = c.args.x in ap (λ n. lt (whole n) x) (sym (below-is)) ∙ ap (λ z. lt z x) (sym c.from-back.ensures) in
-    let s = c in
-    let b = below-is in
-    let k = ceil_more s.args.x (ordered_of _ s.well_formed.0.1 (lt_right _ _ c.if-back-x.true)) (omega arith) (test-is ∙ c.if-back-x.true) in
-    omega arith
-
-pub returns-else-back-x : goal.returns-else-back-x
-returns-else-back-x c =
-    let below-is : c.floor_to-below.result ≡ floor c.args.x = omega arith in
-    let test-is : (let x = c.args.x in lt (whole (floor x)) x ≡ lt c.from-back.result x) = let x = c.args.x in ap (λ n. lt (whole n) x) (sym (below-is)) ∙ ap (λ z. lt z x) (sym c.from-back.ensures) in
-    let s = c in
-    let b = below-is in
-    let k = ceil_not_more s.args.x s.well_formed.0.1 (omega arith) (test-is ∙ c.if-back-x.false) in
+pub returns-then-from-x : goal.returns-then-from-x
+returns-then-from-x c =
+    let x = c.args.x in
+    let below : c.floor_to-below.result ≡ floor x = omega arith in
+    let test : lt (whole (floor x)) x ≡ lt c.from.result x = ap (λ n. lt (whole n) x) (sym below) ∙ ap (λ z. lt z x) (sym c.from.ensures) in
+    let k = ceil_more x (ordered_of _ c.well_formed.0.1 (lt_right _ _ c.if-from-x.true)) (omega arith) (test ∙ c.if-from-x.true) in
     omega arith
 
 pub returns-else-below-limit : goal.returns-else-below-limit
-returns-else-below-limit c = omega (arith, floor_ceil c.args.x)
+returns-else-below-limit c =
+    elim c.else-below-limit.branch [
+      | else-below-limit-via-then-below-limit+else-from-x w ↦
+          let x = c.args.x in
+          let below : c.floor_to-below.result ≡ floor x = omega (arith, w.if-below-limit.true) in
+          let test : lt (whole (floor x)) x ≡ lt w.from.result x = ap (λ n. lt (whole n) x) (sym below) ∙ ap (λ z. lt z x) (sym w.from.ensures) in
+          let k = ceil_not_more x c.well_formed.0.1 (omega (arith, w.if-below-limit.true)) (test ∙ w.if-from-x.false) in
+          omega (arith, w.if-below-limit.true)
+      | else-below-limit-via-else-below-limit w ↦ omega (arith, floor_ceil c.args.x, w.if-below-limit.false)
+    ]
