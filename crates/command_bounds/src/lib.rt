@@ -8,36 +8,36 @@ ghost use Rattle.strip_format.specs.Format.{command_at};
 ghost use Rattle.command_bounds.specs.Kinds.{kind_at};
 
 use affine::Affine;
+use strip_format::Kind;
 
-// The byte of the command that stands whole at an offset, else 0.
-pub fn kind_at(s: &[u8], at: usize) -> u8
+// The kind of the command that stands whole at an offset, if one does.
+pub fn kind_at(s: &[u8], at: usize) -> Option<Kind>
     ensures { result ≡ kind_at s.now at }
 {
-    if s.len() <= at {
-        return 0;
-    }
-    let b = s[at];
-    if s.len() - at < strip_format::length_of(b) {
-        return 0;
-    }
-    b
+    let kind = Kind::try_from(*s.get(at)?).ok()?;
+    (kind.length() <= s.len() - at).then_some(kind)
 }
+
+// What stands for an affine where no drawing command stands whole.
+const NONE: Affine = Affine {
+    a: 0.0,
+    b: 0.0,
+    c: 0.0,
+    d: 0.0,
+    e: 0.0,
+    f: 0.0,
+};
 
 pub fn transform_at(s: &[u8], at: usize) -> Affine
     ensures { result ≡ Bounds.transform_of (command_at s.now at) }
 {
-    match kind_at(s, at) {
-        3 => strip_format::affine_inside(s, at + 41),
-        4 => strip_format::affine_inside(s, at + 41),
-        5 => strip_format::affine_inside(s, at + 13),
-        7 => strip_format::affine_inside(s, at + 25),
-        _ => Affine {
-            a: 0.0,
-            b: 0.0,
-            c: 0.0,
-            d: 0.0,
-            e: 0.0,
-            f: 0.0,
-        },
+    let Some(kind) = kind_at(s, at) else {
+        return NONE;
+    };
+    match kind {
+        Kind::Fill | Kind::Stroke => strip_format::affine_inside(s, at + 41),
+        Kind::Run => strip_format::affine_inside(s, at + 13),
+        Kind::Scene => strip_format::affine_inside(s, at + 25),
+        _ => NONE,
     }
 }

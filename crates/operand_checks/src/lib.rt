@@ -3,9 +3,11 @@
 #![tactic(auto)]
 
 ghost use Rattle.std.specs.Prelude.{◌≡◌, ◌+◌, ◌*◌, ◌≤◌, ◌<◌, ◌^◌, length};
+ghost use Rattle.strip_format.specs.Kinds.{code};
 ghost use Rattle.operand_checks.specs.Operands as Operands;
 
 use refusals::Fault;
+use strip_format::Kind;
 
 // Whether the n f64 from an offset on are finite, where bytes may be missing.
 fn finite_cut(s: &[u8], at: usize, n: usize) -> bool
@@ -87,14 +89,16 @@ fn floats_pass(pass: bool) -> Result<(), Fault>
     if pass { Ok(()) } else { Err(Fault::NotFinite) }
 }
 
-fn operands_inside(s: &[u8], at: usize, b: u8) -> Result<(), Fault>
+#[tactic(auto, unfolding(crate::specs::Operands::operands_at))]
+fn operands_inside(s: &[u8], at: usize, kind: Kind) -> Result<(), Fault>
     requires { at < length s.now }
-    ensures { result ≡ Operands.operands_at s.now at b }
+    ensures { result ≡ Operands.operands_at s.now at (code kind) }
 {
-    match b {
-        1 => floats_pass(finite_from(s, at + 1, 4)),
-        3 => floats_pass(finite_from(s, at + 9, 10)),
-        4 => {
+    match kind {
+        Kind::End | Kind::Pop => Ok(()),
+        Kind::Clip => floats_pass(finite_from(s, at + 1, 4)),
+        Kind::Fill => floats_pass(finite_from(s, at + 9, 10)),
+        Kind::Stroke => {
             let join = little_endian::byte_at(s, at + 105);
             let start = little_endian::byte_at(s, at + 114);
             let end = little_endian::byte_at(s, at + 115);
@@ -104,21 +108,20 @@ fn operands_inside(s: &[u8], at: usize, b: u8) -> Result<(), Fault>
                 Err(Fault::UnknownCode)
             }
         }
-        5 => floats_pass(finite_run(s, at)),
-        6 => floats_pass(finite_glyph(s, at)),
-        7 => floats_pass(finite_from(s, at + 25, 10)),
-        _ => Ok(()),
+        Kind::Run => floats_pass(finite_run(s, at)),
+        Kind::Glyph => floats_pass(finite_glyph(s, at)),
+        Kind::Scene => floats_pass(finite_from(s, at + 25, 10)),
     }
 }
 
 // Whether the operands of the command at an offset pass, or what is wrong with them.
-pub fn operands(s: &[u8], at: usize, b: u8) -> Result<(), Fault>
-    ensures { result ≡ Operands.operands_at s.now at b }
+pub fn operands(s: &[u8], at: usize, kind: Kind) -> Result<(), Fault>
+    ensures { result ≡ Operands.operands_at s.now at (code kind) }
 {
     if s.len() <= at {
         return Ok(());
     }
-    operands_inside(s, at, b)
+    operands_inside(s, at, kind)
 }
 
 // Whether the floats of the GLYPH at an offset are finite. One that stands whole is tested here, so that this is compiled into the loop

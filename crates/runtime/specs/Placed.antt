@@ -66,7 +66,7 @@ apart s p q = pick (eqb (get_or s p 0) 5) false (pick (same_drawing (command_at 
 
 -- a RUN stands whole at p, and at q another with the same operands and as many glyphs
 abbrev pub SameRun : List ℕ → ℕ → ℕ → Type 0
-SameRun s p q = (kind_at s p ≡ 5) × (kind_at s q ≡ 5) × (command_at s p ≡ command_at s q)
+SameRun s p q = (kind_at s p ≡ Some RunKind) × (kind_at s q ≡ Some RunKind) × (command_at s p ≡ command_at s q)
 
 -- such a RUN at two places of a list, with clip numbers and glyphs that the space holds
 pub record RunPair (s : List ℕ) (bs : List Float) (is : List ℕ) (i j : ℕ) : Type 0 where

@@ -85,9 +85,13 @@ fn apart(s: &[u8], at: usize, other: usize) -> bool
 fn same_run(s: &[u8], at: usize, other: usize) -> bool
     ensures { result ≡ true → SameRun s.now at other }
 {
-    command_bounds::kind_at(s, at) == 5
-        && command_bounds::kind_at(s, other) == 5
-        && little_endian::same_bytes(s, at, other, 103)
+    match (
+        command_bounds::kind_at(s, at),
+        command_bounds::kind_at(s, other),
+    ) {
+        (Some(Kind::Run), Some(Kind::Run)) => little_endian::same_bytes(s, at, other, 103),
+        _ => false,
+    }
 }
 
 // The length of the command at an offset, with its glyphs.

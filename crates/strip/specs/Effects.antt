@@ -2,7 +2,7 @@
 use Rattle.refusals.specs.declared.Fault.TheVariants.{TooMany}
 use Rattle.refusals.specs.declared.Refusal.{Refusal}
 use Rattle.refusals.specs.Table.{refused}
-use Rattle.std.specs.Prelude.{◌≡◌, true, List, ℕ, zero, suc, ◌+◌, ◌≤◌, ◌<◌, leb, eqb, length, get_or, Result, Ok, Err}
+use Rattle.std.specs.Prelude.{◌≡◌, true, List, ℕ, zero, suc, ◌+◌, ◌≤◌, ◌<◌, leb, eqb, length, get_or, Some, Result, Ok, Err}
 use Rattle.lists.specs.Pick.{pick}
 use Rattle.geometry.specs.declared.Rect.{Rect}
 use Rattle.affine.specs.declared.Affine.{Affine}
@@ -10,6 +10,7 @@ use Rattle.affine.specs.Affines.{try_transform, finite_corners}
 use Rattle.commands.specs.Bounds.{local_with}
 use Rattle.strip_format.specs.Format.{length_of, rect_at, command_at}
 use Rattle.strip_format.specs.Finite.{FourNear}
+use Rattle.strip_format.specs.declared.Kind.TheVariants.{Run}
 use Rattle.command_bounds.specs.Kinds.{kind_at}
 use Rattle.operand_checks.specs.Operands.{finite_f32, finite_glyph, operands_at}
 use Rattle.strip.specs.declared.Cursor.{Cursor}
@@ -78,7 +79,7 @@ abbrev pub NearGoesOn : List ℕ → Cursor → Type 0
 NearGoesOn s st = GlyphDue s st × (finite_f32 s (st.at + 5) ≡ true) × (finite_f32 s (st.at + 9) ≡ true) × FourNear s (st.at + 13)
 
 abbrev pub NearRun : List ℕ → ℕ → Type 0
-NearRun s at = (kind_at s at ≡ 5) × FourNear s (at + 13) × FourNear s (at + 13 + 16)
+NearRun s at = (kind_at s at ≡ Some Run) × FourNear s (at + 13) × FourNear s (at + 13 + 16)
 
 -- n steps from st to t, each of which only moves the cursor
 unfoldable pub Moves : ℕ → List ℕ → Cursor → Cursor → Type 0

@@ -4,6 +4,7 @@
 ghost use Rattle.std.specs.Prelude.{◌≡◌, true, ◌+◌, ◌≤◌, ◌<◌, ◌^◌, length};
 ghost use Rattle.commands.specs.Bounds.{transform_of};
 ghost use Rattle.strip_format.specs.Format.{length_of, command_at};
+ghost use Rattle.strip_format.specs.Kinds.{code};
 ghost use Rattle.strip_format.specs.Finite.{FourFinite};
 ghost use Rattle.strip.specs.Steps as Steps;
 ghost use Rattle.strip.specs.Reading as Reading;
@@ -13,6 +14,7 @@ ghost use Rattle.strip.specs.Effects.{settled, draw_effect, last_effect, Stands,
 use affine::Affine;
 use geometry::Rect;
 use refusals::{Fault, Refusal};
+use strip_format::Kind;
 
 mod reader;
 
@@ -136,16 +138,16 @@ impl Cursor {
     }
 
     // Any drawing command. One that announces no glyph is drawn, a RUN too: in one place, so that it is compiled into its caller.
-    fn draw_or_run(self, s: &[u8], b: u8) -> Result<Effect, Refusal>
-        requires { DrawsAt s.now self.at b }
-        ensures { settled result ≡ Steps.effect_of s.now self b }
+    fn draw_or_run(self, s: &[u8], kind: Kind) -> Result<Effect, Refusal>
+        requires { DrawsAt s.now self.at (code kind) }
+        ensures { settled result ≡ Steps.effect_of s.now self (code kind) }
     {
         let at = self.at;
-        let due = announced(s, at, b);
+        let due = announced(s, at, kind);
         if due == 0 {
-            let transform = drawn_transform(s, at, b);
-            let bounds = drawn_bounds(s, at, b);
-            return self.draw(transform, bounds, strip_format::length_of(b));
+            let transform = drawn_transform(s, at, kind);
+            let bounds = drawn_bounds(s, at, kind);
+            return self.draw(transform, bounds, kind.length());
         }
         Ok(Effect::Done(self.run(due)?))
     }
@@ -215,88 +217,95 @@ impl Cursor {
     }
 }
 
-// Where the affine of a drawing command stands, by its byte.
-fn affine_offset(at: usize, b: u8) -> usize
+// Where the affine of a drawing command stands.
+#[tactic(auto, unfolding(crate::specs::Effects::affine_offset))]
+fn affine_offset(at: usize, kind: Kind) -> usize
     requires { at + 41 < 2 ^ 64 }
-    ensures { result ≡ affine_offset at b }
+    ensures { result ≡ affine_offset at (code kind) }
 {
-    match b {
-        5 => at + 13,
-        7 => at + 25,
+    match kind {
+        Kind::Run => at + 13,
+        Kind::Scene => at + 25,
         _ => at + 41,
     }
 }
 
 // Where its box stands.
-fn rect_offset(at: usize, b: u8) -> usize
+#[tactic(auto, unfolding(crate::specs::Effects::rect_offset))]
+fn rect_offset(at: usize, kind: Kind) -> usize
     requires { at + 73 < 2 ^ 64 }
-    ensures { result ≡ rect_offset at b }
+    ensures { result ≡ rect_offset at (code kind) }
 {
-    match b {
-        5 => at + 69,
-        7 => at + 73,
+    match kind {
+        Kind::Run => at + 69,
+        Kind::Scene => at + 73,
         _ => at + 9,
     }
 }
 
 // The affine of a drawing command. Its floats are known to be finite, since its operands passed: no float is tested twice.
-fn drawn_transform(s: &[u8], at: usize, b: u8) -> Affine
-    requires { DrawsAt s.now at b }
+fn drawn_transform(s: &[u8], at: usize, kind: Kind) -> Affine
+    requires { DrawsAt s.now at (code kind) }
     ensures { result ≡ transform_of (command_at s.now at) }
 {
-    strip_format::affine_finite(s, affine_offset(at, b))
+    strip_format::affine_finite(s, affine_offset(at, kind))
 }
 
 // The box of a drawing command that announces no glyph, before its transform. A STROKE's is inflated.
-fn drawn_bounds(s: &[u8], at: usize, b: u8) -> Rect
-    requires { DrawsAt s.now at b × (Steps.announced s.now at b ≡ 0) }
+fn drawn_bounds(s: &[u8], at: usize, kind: Kind) -> Rect
+    requires { DrawsAt s.now at (code kind) × (Steps.announced s.now at (code kind) ≡ 0) }
     ensures { OwnBounds s.now at result }
 {
-    let bounds = strip_format::rect_finite(s, rect_offset(at, b));
-    if b == 4 {
-        let inflation = commands::stroke_bounds_inflation(strip_format::stroke_at(s, at + 97));
-        bounds.inflate(inflation, inflation)
-    } else {
-        bounds
+    let bounds = strip_format::rect_finite(s, rect_offset(at, kind));
+    match kind {
+        Kind::Stroke => {
+            let inflation =
+                commands::stroke_bounds_inflation(strip_format::stroke_at(s, at + 97));
+            bounds.inflate(inflation, inflation)
+        }
+        _ => bounds,
     }
 }
 
 // How many glyphs the command at an offset announces.
-fn announced(s: &[u8], at: usize, b: u8) -> u64
-    requires { at + length_of b ≤ length s.now }
-    ensures { result ≡ Steps.announced s.now at b }
+fn announced(s: &[u8], at: usize, kind: Kind) -> u64
+    requires { at + length_of (code kind) ≤ length s.now }
+    ensures { result ≡ Steps.announced s.now at (code kind) }
 {
-    if b == 5 {
-        u64::from(little_endian::u16_at(s, at + 101))
-    } else {
-        0
+    match kind {
+        Kind::Run => u64::from(little_endian::u16_at(s, at + 101)),
+        _ => 0,
     }
 }
 
-fn due_fits(b: u8, due: u64) -> bool
-    ensures { result ≡ Steps.due_fits b due }
+#[tactic(auto, unfolding(crate::specs::Steps::due_fits))]
+fn due_fits(kind: Kind, due: u64) -> bool
+    ensures { result ≡ Steps.due_fits (code kind) due }
 {
-    if b == 6 { 0 < due } else { due == 0 }
+    match kind {
+        Kind::Glyph => 0 < due,
+        _ => due == 0,
+    }
 }
 
-// The byte is handed on as it is written, not as it was read: the compiler then makes a row of code for each kind, in which all offsets stand.
-fn effect_of(s: &[u8], st: Cursor, b: u8) -> Result<Effect, Refusal>
-    requires { Stands s.now st.at b × (Steps.due_fits b st.due ≡ true) }
-    ensures { settled result ≡ Steps.effect_of s.now st b }
+// The kind is handed on as it is written, not as it was read: the compiler then makes a row of code for each kind, in which all offsets stand.
+fn effect_of(s: &[u8], st: Cursor, kind: Kind) -> Result<Effect, Refusal>
+    requires { Stands s.now st.at (code kind) × (Steps.due_fits (code kind) st.due ≡ true) }
+    ensures { settled result ≡ Steps.effect_of s.now st (code kind) }
 {
-    match b {
-        0 => {
+    match kind {
+        Kind::End => {
             let mut end = st;
             end.at = end.at + 1;
             Ok(Effect::Done(Step::End(end)))
         }
-        1 => Ok(Effect::Done(st.clip(s)?)),
-        2 => Ok(Effect::Done(st.pop()?)),
-        3 => st.draw_or_run(s, 3),
-        4 => st.draw_or_run(s, 4),
-        6 => st.glyph(s),
-        7 => st.draw_or_run(s, 7),
-        _ => st.draw_or_run(s, b),
+        Kind::Clip => Ok(Effect::Done(st.clip(s)?)),
+        Kind::Pop => Ok(Effect::Done(st.pop()?)),
+        Kind::Fill => st.draw_or_run(s, Kind::Fill),
+        Kind::Stroke => st.draw_or_run(s, Kind::Stroke),
+        Kind::Run => st.draw_or_run(s, Kind::Run),
+        Kind::Glyph => st.glyph(s),
+        Kind::Scene => st.draw_or_run(s, Kind::Scene),
     }
 }
 
@@ -323,18 +332,17 @@ pub fn take_step(s: &[u8], st: Cursor) -> Result<Step, Refusal>
     if s.len() <= at {
         return Err(Fault::CutOff.at(s.len()));
     }
-    let b = s[at];
-    if 7 < b {
+    let Ok(kind) = Kind::try_from(s[at]) else {
         return Err(Fault::UnknownCode.at(at));
-    }
-    if !due_fits(b, st.due) {
+    };
+    if !due_fits(kind, st.due) {
         return Err(Fault::GlyphOrder.at(at));
     }
-    if s.len() - at < strip_format::length_of(b) {
+    if s.len() - at < kind.length() {
         return Err(Fault::CutOff.at(at));
     }
-    match operand_checks::operands(s, at, b) {
-        Ok(()) => settle(effect_of(s, st, b)?),
+    match operand_checks::operands(s, at, kind) {
+        Ok(()) => settle(effect_of(s, st, kind)?),
         Err(fault) => Err(fault.at(at)),
     }
 }
@@ -393,13 +401,12 @@ fn near_goes_on(s: &[u8], st: Cursor) -> bool
 fn near_run(s: &[u8], at: usize) -> bool
     ensures { result ≡ true → NearRun s.now at }
 {
-    if command_bounds::kind_at(s, at) != 5 {
-        return false;
+    match command_bounds::kind_at(s, at) {
+        Some(Kind::Run) => {
+            strip_format::near_rect(s, at + 13) && strip_format::near_rect(s, at + 13 + 16)
+        }
+        _ => false,
     }
-    if strip_format::near_rect(s, at + 13) {
-        return strip_format::near_rect(s, at + 13 + 16);
-    }
-    false
 }
 
 // Past the glyphs at the cursor that only move it, as far as they and their run are as near: such an affine takes no corner of such a

@@ -12,7 +12,7 @@ ghost use Rattle.strip_format.specs.Format.{rect_at, affine_at, fill_at, stroke_
 ghost use Rattle.strip_equality.specs.Places.{same_path_at};
 
 use operand_equality::stroke_eq;
-use strip_format::stroke_at;
+use strip_format::{Kind, stroke_at};
 
 // Whether the f64 at two offsets are equal. Most have the same bits, and what is decoded is finite, so it equals itself. By itself, so that what calls it only
 // where bytes differ stays small.
@@ -104,14 +104,13 @@ fn same_decoded(s: &[u8], p: usize, q: usize) -> bool
 pub fn same_drawing_at(s: &[u8], p: usize, q: usize) -> bool
     ensures { result ≡ same_drawing (command_at s.now p) (command_at s.now q) }
 {
-    let b = command_bounds::kind_at(s, p);
-    if b != command_bounds::kind_at(s, q) {
-        return same_decoded(s, p, q);
-    }
-    match b {
-        3 => same_path(s, p, q),
-        4 => same_stroked(s, p, q),
-        7 => same_scene(s, p, q),
+    match (
+        command_bounds::kind_at(s, p),
+        command_bounds::kind_at(s, q),
+    ) {
+        (Some(Kind::Fill), Some(Kind::Fill)) => same_path(s, p, q),
+        (Some(Kind::Stroke), Some(Kind::Stroke)) => same_stroked(s, p, q),
+        (Some(Kind::Scene), Some(Kind::Scene)) => same_scene(s, p, q),
         _ => same_decoded(s, p, q),
     }
 }

@@ -1,4 +1,5 @@
 -- Laws of the format, for the crates above.
+pub mod Codes
 pub mod Lengths
 pub mod Near
 pub mod Commands

@@ -6,25 +6,62 @@
 ghost use Rattle.std.specs.Prelude.{◌≡◌, ◌+◌, ◌*◌, ◌%◌, ◌^◌, ◌≤◌, ltb, length, true};
 ghost use Rattle.little_endian.specs.Words.{u64_at};
 ghost use Rattle.strip_format.specs.Format as Format;
+ghost use Rattle.strip_format.specs.Kinds.{code, Decodes};
 ghost use Rattle.strip_format.specs.Finite.{AllFinite, FloatsFrom, FourFinite, near_bits, FourNear};
 
 use affine::Affine;
 use commands::{Cap, DrawCommand, Join, Stroke};
 use geometry::Rect;
 
-// The length of a command with its operands, by its byte; 1 for bytes that are no command's.
-#[tactic(auto, unfolding(crate::specs::Format::length_of))]
-pub fn length_of(b: u8) -> usize
-    ensures { result ≡ Format.length_of b }
-{
-    match b {
-        1 => 33,
-        3 => 97,
-        4 => 124,
-        5 => 103,
-        6 => 45,
-        7 => 105,
-        _ => 1,
+// What a command is, by its byte.
+#[derive(Clone, Copy, Debug, PartialEq, Eq)]
+pub enum Kind {
+    End = 0,
+    Clip = 1,
+    Pop = 2,
+    Fill = 3,
+    Stroke = 4,
+    Run = 5,
+    Glyph = 6,
+    Scene = 7,
+}
+
+// A byte that is no command's is the error.
+impl TryFrom<u8> for Kind {
+    type Error = u8;
+
+    ghost try_from_gives = { Decodes };
+
+    fn try_from(byte: u8) -> Result<Kind, u8> {
+        match byte {
+            0 => Ok(Kind::End),
+            1 => Ok(Kind::Clip),
+            2 => Ok(Kind::Pop),
+            3 => Ok(Kind::Fill),
+            4 => Ok(Kind::Stroke),
+            5 => Ok(Kind::Run),
+            6 => Ok(Kind::Glyph),
+            7 => Ok(Kind::Scene),
+            _ => Err(byte),
+        }
+    }
+}
+
+impl Kind {
+    // The length of a command with its operands.
+    #[tactic(auto, unfolding(crate::specs::Format::length_of))]
+    pub fn length(self) -> usize
+        ensures { result ≡ Format.length_of (code self) }
+    {
+        match self {
+            Kind::End | Kind::Pop => 1,
+            Kind::Clip => 33,
+            Kind::Fill => 97,
+            Kind::Stroke => 124,
+            Kind::Run => 103,
+            Kind::Glyph => 45,
+            Kind::Scene => 105,
+        }
     }
 }
 
@@ -275,15 +312,17 @@ pub fn command_at(s: &[u8], at: usize) -> DrawCommand
     if s.len() <= at {
         return blank();
     }
-    let b = s[at];
-    if s.len() - at < length_of(b) {
+    let Ok(kind) = Kind::try_from(s[at]) else {
+        return blank();
+    };
+    if s.len() - at < kind.length() {
         return blank();
     }
-    match b {
-        3 => fill_at(s, at),
-        4 => stroke_path_at(s, at),
-        5 => run_at(s, at),
-        7 => scene_at(s, at),
+    match kind {
+        Kind::Fill => fill_at(s, at),
+        Kind::Stroke => stroke_path_at(s, at),
+        Kind::Run => run_at(s, at),
+        Kind::Scene => scene_at(s, at),
         _ => blank(),
     }
 }

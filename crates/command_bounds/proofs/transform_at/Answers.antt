@@ -1,44 +1,66 @@
+-- `command_bounds::transform_at` meets its contract: by the kind of the command that stands there. Assumes nothing.
 use native.Mathlib.Omega.{arith}
-use mathlib.Core.Path.{sym, ap, ◌∙◌}
+use mathlib.Core.Logic.{◌⊎◌, inl, inr}
+use mathlib.Core.List.{List}
+use mathlib.Core.Path.{◌≡◌, sym, ap, ◌∙◌}
+use Prim.Native.Nat.{ℕ, ◌+◌, ◌≤◌}
+use lib.ListN.{length}
+use Rattle.std.specs.Prelude.{Option, Some, None}
+use Rattle.affine.specs.declared.Affine.{Affine}
 use Rattle.commands.specs.Bounds.{transform_of}
+use Rattle.strip_format.specs.declared.Kind.{Kind}
+use Rattle.strip_format.specs.declared.Kind.TheVariants.{Fill, Stroke, Run, Scene}
+use Rattle.strip_format.specs.Format.{affine_at, command_at}
+use Rattle.command_bounds.specs.Kinds.{kind_at}
 use Rattle.command_bounds.proofs.Standing.{is_fill, is_stroke, is_run, is_scene, is_other}
 use Rattle.command_bounds.proofs.transform_at.Goals as goal
 
+-- what stands there, once its kind is told
+told : {o p : Option Kind} {kind k : Kind} → o ≡ p → o ≡ Some kind → kind ≡ k → p ≡ Some k
+told u e q = sym u ∙ e ∙ ap Some q
+
+-- a FILL and a STROKE have their affine at the same place
+path : (s : List ℕ) (at : ℕ) {o : Option Kind} {kind : Kind} → o ≡ kind_at s at → o ≡ Some kind → (kind ≡ Fill) ⊎ (kind ≡ Stroke) → (at + 97 ≤ length s) × (affine_at s (at + 41) ≡ transform_of (command_at s at))
+path s at u e (inl q) = let w = is_fill s at (told u e q) in (w.1, ap transform_of w.0)
+path s at u e (inr q) = let w = is_stroke s at (told u e q) in (omega (arith, w.1), ap transform_of w.0)
+
 pub overflow_add-at : goal.overflow_add-at
-overflow_add-at c = omega (arith, (is_fill _ _ (sym c.kind_at.ensures ∙ c.in-3.is)).1)
+overflow_add-at c = omega (arith, (path _ _ c.kind_at.ensures c.in-Some.is c.in-Fill.is).0)
 
 pub affine_inside-requires : goal.affine_inside-requires
-affine_inside-requires c = omega (arith, (is_fill _ _ (sym c.kind_at.ensures ∙ c.in-3.is)).1)
+affine_inside-requires c = omega (arith, (path _ _ c.kind_at.ensures c.in-Some.is c.in-Fill.is).0)
 
-pub overflow_add-at-in-4 : goal.overflow_add-at-in-4
-overflow_add-at-in-4 c = omega (arith, (is_stroke _ _ (sym c.kind_at.ensures ∙ c.in-4.is)).1)
+pub overflow_add-at-in-Run : goal.overflow_add-at-in-Run
+overflow_add-at-in-Run c = omega (arith, (is_run _ _ (told c.kind_at.ensures c.in-Some.is c.in-Run.is)).1)
 
-pub affine_inside-requires-in-4 : goal.affine_inside-requires-in-4
-affine_inside-requires-in-4 c = omega (arith, (is_stroke _ _ (sym c.kind_at.ensures ∙ c.in-4.is)).1)
+pub affine_inside-requires-in-Run : goal.affine_inside-requires-in-Run
+affine_inside-requires-in-Run c = omega (arith, (is_run _ _ (told c.kind_at.ensures c.in-Some.is c.in-Run.is)).1)
 
-pub overflow_add-at-in-5 : goal.overflow_add-at-in-5
-overflow_add-at-in-5 c = omega (arith, (is_run _ _ (sym c.kind_at.ensures ∙ c.in-5.is)).1)
+pub overflow_add-at-in-Scene : goal.overflow_add-at-in-Scene
+overflow_add-at-in-Scene c = omega (arith, (is_scene _ _ (told c.kind_at.ensures c.in-Some.is c.in-Scene.is)).1)
 
-pub affine_inside-requires-in-5 : goal.affine_inside-requires-in-5
-affine_inside-requires-in-5 c = omega (arith, (is_run _ _ (sym c.kind_at.ensures ∙ c.in-5.is)).1)
+pub affine_inside-requires-in-Scene : goal.affine_inside-requires-in-Scene
+affine_inside-requires-in-Scene c = omega (arith, (is_scene _ _ (told c.kind_at.ensures c.in-Some.is c.in-Scene.is)).1)
 
-pub overflow_add-at-in-7 : goal.overflow_add-at-in-7
-overflow_add-at-in-7 c = omega (arith, (is_scene _ _ (sym c.kind_at.ensures ∙ c.in-7.is)).1)
+pub returns-in-Fill : goal.returns-in-Fill
+returns-in-Fill c = c.affine_inside.ensures ∙ (path _ _ c.kind_at.ensures c.in-Some.is c.in-Fill.is).1
 
-pub affine_inside-requires-in-7 : goal.affine_inside-requires-in-7
-affine_inside-requires-in-7 c = omega (arith, (is_scene _ _ (sym c.kind_at.ensures ∙ c.in-7.is)).1)
+pub returns-in-Run : goal.returns-in-Run
+returns-in-Run c = c.affine_inside-in-Run.ensures ∙ ap transform_of (is_run _ _ (told c.kind_at.ensures c.in-Some.is c.in-Run.is)).0
 
-pub returns-in-3 : goal.returns-in-3
-returns-in-3 c = c.affine_inside.ensures ∙ ap transform_of (is_fill _ _ (sym c.kind_at.ensures ∙ c.in-3.is)).0
-
-pub returns-in-4 : goal.returns-in-4
-returns-in-4 c = c.affine_inside-in-4.ensures ∙ ap transform_of (is_stroke _ _ (sym c.kind_at.ensures ∙ c.in-4.is)).0
-
-pub returns-in-5 : goal.returns-in-5
-returns-in-5 c = c.affine_inside-in-5.ensures ∙ ap transform_of (is_run _ _ (sym c.kind_at.ensures ∙ c.in-5.is)).0
-
-pub returns-in-7 : goal.returns-in-7
-returns-in-7 c = c.affine_inside-in-7.ensures ∙ ap transform_of (is_scene _ _ (sym c.kind_at.ensures ∙ c.in-7.is)).0
+pub returns-in-Scene : goal.returns-in-Scene
+returns-in-Scene c = c.affine_inside-in-Scene.ensures ∙ ap transform_of (is_scene _ _ (told c.kind_at.ensures c.in-Some.is c.in-Scene.is)).0
 
 pub returns-in_default : goal.returns-in_default
-returns-in_default c = ap transform_of (is_other _ _ (λ q. c.in_default.in_default-own.rest.0.0.0.1 (c.kind_at.ensures ∙ q)) (λ q. c.in_default.in_default-own.rest.0.0.1 (c.kind_at.ensures ∙ q)) (λ q. c.in_default.in_default-own.rest.0.1 (c.kind_at.ensures ∙ q)) (λ q. c.in_default.in_default-own.rest.1 (c.kind_at.ensures ∙ q)))
+returns-in_default c = ap transform_of (is_other _ _ (λ q. c.in_default.not-Some Fill (c.kind_at.ensures ∙ q)) (λ q. c.in_default.not-Some Stroke (c.kind_at.ensures ∙ q)) (λ q. c.in_default.not-Some Run (c.kind_at.ensures ∙ q)) (λ q. c.in_default.not-Some Scene (c.kind_at.ensures ∙ q)))
+
+-- another kind
+abbrev or_fill : Option Kind → Kind
+or_fill (Some k) = k
+or_fill None = Fill
+
+other : {o p : Option Kind} {kind k : Kind} → o ≡ p → o ≡ Some kind → (kind ≡ k → ⊥) → p ≡ Some k → ⊥
+other u e n q = n (ap or_fill (sym e ∙ u ∙ q))
+
+pub returns-in_default-kind : goal.returns-in_default-kind
+returns-in_default-kind c = ap transform_of (is_other _ _ (other c.kind_at.ensures c.in-Some.is c.in_default-kind.not-Fill) (other c.kind_at.ensures c.in-Some.is c.in_default-kind.not-Stroke) (other c.kind_at.ensures c.in-Some.is c.in_default-kind.not-Run) (other c.kind_at.ensures c.in-Some.is c.in_default-kind.not-Scene))

@@ -7,7 +7,7 @@ use mathlib.Core.Path.{ap, ◌∙◌}
 use Rattle.strip.proofs.Cursor.draw_or_run.Goals as goal
 
 pub returns-then-due-eq0 : goal.returns-then-due-eq0
-returns-then-due-eq0 c = ap settled c.draw.ensures ∙ draw_settles _ _ _ _ c.drawn_transform-transform.ensures c.drawn_bounds-bounds.ensures _ ∙ ap (λ n. draw_step c.args.s.now c.args.self n) c.length_of.ensures ∙ draws_whole _ _ _ _ c.requires.draws c.announced-due.ensures c.if-due-eq0.true
+returns-then-due-eq0 c = ap settled c.draw.ensures ∙ draw_settles _ _ _ _ c.drawn_transform-transform.ensures c.drawn_bounds-bounds.ensures _ ∙ ap (λ n. draw_step c.args.s.now c.args.self n) c.length.ensures ∙ draws_whole _ _ _ _ c.requires.draws c.announced-due.ensures c.if-due-eq0.true
 
 pub returns : goal.returns
 returns c = c.in_ok-run.ensures ∙ draws_run _ _ _ _ c.requires.draws c.announced-due.ensures c.if-due-eq0.false
