@@ -1,13 +1,14 @@
 -- A part that is found lies within the words; and the number tells whether one is found. Assumes nothing.
-use mathlib.Core.Path.{◌≡◌, refl, subst}
-use mathlib.Core.Bool.{Bool, true, false, ◌||◌}
+use mathlib.Core.Path.{◌≡◌, refl, subst, ◌∙◌}
+use mathlib.Core.Bool.{Bool, true, false, ◌||◌, ◌&&◌, not}
 use Prim.Native.Nat.{ℕ, ◌+◌, ◌-◌, ◌/◌, ◌≤◌, ◌<◌}
 use mathlib.Core.List.{List}
 use native.Mathlib.Omega.{arith}
-use borrow.Author.Tests.{leb-false, ltb-false, eqb-false}
+use borrow.Author.Tests.{leb-false, ltb-false, le-leb, lt-leb, le-ltb, lt-ltb}
 use lib.Dec.{leb, ltb, eqb}
 use lib.ListN.{length, get_or}
 use Rattle.lists.specs.Pick.{pick}
+use Rattle.lists.proofs.Picks.{by_le}
 use Rattle.rows.specs.Rows.{row_count}
 use Rattle.std.specs.Prelude.{Result, Ok, Err}
 use Rattle.refusals.specs.declared.Fault.{Fault}
@@ -15,6 +16,8 @@ use Rattle.refusals.specs.declared.Fault.TheVariants.{Size, NoRow}
 use Rattle.refusals.specs.declared.Refusal.{Refusal}
 use Rattle.refusals.specs.Table.{refused}
 use Rattle.refusals.proofs.Numbers.{number_positive}
+use Rattle.screen.specs.declared.Screen.{Screen}
+use Rattle.screen.specs.Sizes.{size_fits, fits}
 use Rattle.candidates.specs.declared.Part.{Part}
 use Rattle.candidates.specs.Table.{bad_size, bad_sizes, bad_row, part, find_row, find, number_of, refusal}
 
@@ -23,27 +26,27 @@ pub neither : (a b : Bool) → (a || b) ≡ false → (a ≡ false) × (b ≡ fa
 neither true b e = let z : ◌≡◌ {A = ℕ} 0 1 = cc in absurd (omega arith)
 neither false b e = (refl, e)
 
--- a size that is not refused
-pub good_size : (n : ℕ) → bad_size n ≡ false → (0 < n) × (n ≤ 32768)
-unfolding bad_size
-good_size n e =
-    let t = neither (eqb n 0) (ltb 32768 n) e in
-    let a : n ≡ 0 → ⊥ = eqb-false n 0 t.0 in
-    (omega arith, ltb-false 32768 n t.1)
+-- a size is refused where it does not fit
+size_refused : (n : ℕ) → bad_size n ≡ not (size_fits n)
+unfolding bad_size size_fits
+size_refused n = go (eqb n 0)
+  where
+    above : ltb 32768 n ≡ not (leb n 32768)
+    above = by_le n 32768 (λ h. rw (le-ltb 32768 n h, le-leb n 32768 h) refl) (λ h. rw (lt-ltb 32768 n h, lt-leb n 32768 h) refl)
 
-pub record GoodSizes (height band : ℕ) : Type 0 where
-  pub some_height : 0 < height
-  pub height_most : height ≤ 32768
-  pub some_band : 0 < band
-  pub band_most : band ≤ 32768
+    go : (t : Bool) → (t || ltb 32768 n) ≡ not (pick t false (leb n 32768))
+    go true = refl
+    go false = above
 
-pub good_sizes : (width height band : ℕ) → bad_sizes width height band ≡ false → GoodSizes height band
+none_fits : (x y z : Bool) → (not x || not y || not z) ≡ not (x && (y && z))
+none_fits true true z = refl
+none_fits true false z = refl
+none_fits false y z = refl
+
+-- so three sizes are, where not all fit
+pub sizes_refused : (s : Screen) → bad_sizes s.width s.height s.band_height ≡ not (fits s)
 unfolding bad_sizes
-good_sizes width height band e =
-    let t = neither (bad_size width || bad_size height) (bad_size band) e in
-    let h = good_size height (neither (bad_size width) (bad_size height) t.0).1 in
-    let b = good_size band t.1 in
-    record { some_height = h.0; height_most = h.1; some_band = b.0; band_most = b.1 }
+sizes_refused s = (λ i. size_refused s.width i || size_refused s.height i || size_refused s.band_height i) ∙ none_fits (size_fits s.width) (size_fits s.height) (size_fits s.band_height)
 
 -- what is not refused is a part
 found : (t : Bool) (f : Fault) (p : Part) (x : Result Part Refusal) → pick t (refused f 0) x ≡ Ok p → (t ≡ false) × (x ≡ Ok p)

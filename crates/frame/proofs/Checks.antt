@@ -1,13 +1,14 @@
 -- The header and the strips behind it, by the checks in their order. Assumes nothing.
-use Rattle.std.specs.Prelude.{◌≡◌, true, false, ◌&&◌, List, ℕ, ◌≤◌, ◌<◌, length, Ok}
-use mathlib.Core.Path.{sym, ap}
+use Rattle.std.specs.Prelude.{◌≡◌, true, false, List, ℕ, ◌≤◌, ◌<◌, length, Ok}
+use mathlib.Core.Path.{sym, ap, ◌∙◌}
 use borrow.Author.Tests.{le-ltb, lt-ltb}
 use Rattle.refusals.specs.declared.Fault.TheVariants.{Size, CutOff, TrailingByte}
 use Rattle.refusals.specs.Table.{refused}
-use Rattle.little_endian.specs.Words.{u32_at}
 use Rattle.strip.specs.declared.Cursor.{Cursor}
 use Rattle.strip.specs.Reading.{read_strip}
-use Rattle.frame.specs.Frame.{size_fits, header_of, ended, then_new, then_strips, both_of}
+use Rattle.screen.specs.declared.Screen.{Screen}
+use Rattle.screen.specs.Sizes.{fits}
+use Rattle.frame.specs.Frame.{sizes_at, header_of, ended, then_new, then_strips, both_of}
 
 module _ (s : List ℕ) where
   -- ---- the header
@@ -15,14 +16,14 @@ module _ (s : List ℕ) where
   unfolding header_of
   header_short h = rw (lt-ltb (length s) 12 h)
 
-  module _ (w h b : ℕ) (long : 12 ≤ length s) (width : w ≡ u32_at s 0) (height : h ≡ u32_at s 4) (band : b ≡ u32_at s 8) where
-    pub header_bad : (size_fits w && (size_fits h && size_fits b)) ≡ false → refused Size 0 ≡ header_of s
+  module _ (sizes : Screen) (long : 12 ≤ length s) (read : sizes ≡ sizes_at s) where
+    pub header_bad : fits sizes ≡ false → refused Size 0 ≡ header_of s
     unfolding header_of
-    header_bad misfit = rw (le-ltb (length s) 12 long, sym width, sym height, sym band, misfit)
+    header_bad e = let misfit = ap fits (sym read) ∙ e in rw (le-ltb (length s) 12 long, misfit)
 
-    pub header_good : (size_fits w && (size_fits h && size_fits b)) ≡ true → Ok (record { width = w; height = h; band_height = b }) ≡ header_of s
+    pub header_good : fits sizes ≡ true → Ok sizes ≡ header_of s
     unfolding header_of
-    header_good fits = rw (le-ltb (length s) 12 long, sym width, sym height, sym band, fits)
+    header_good e = let all-fit = ap fits (sym read) ∙ e in rw (le-ltb (length s) 12 long, all-fit) (ap Ok read)
 
 -- ---- the new strip behind the old one
 pub both_next : (s : List ℕ) (old : Cursor) → read_strip s 12 ≡ Ok old → then_new s old (read_strip s old.at) ≡ both_of s

@@ -1,6 +1,6 @@
 -- Reading a whole input: numbers 1 and 2 of the header, then each strip from where the last one ended, then 8. "Checked" in the table's order, old
 -- strip first; lent space is judged behind all of this.
-use Rattle.std.specs.Prelude.{Bool, false, ◌&&◌, List, ℕ, leb, ltb, eqb, length, Result, Ok, Err}
+use Rattle.std.specs.Prelude.{◌&&◌, List, ℕ, ltb, length, Result, Ok, Err}
 use Rattle.lists.specs.Pick.{pick}
 use Rattle.refusals.specs.declared.Fault.TheVariants.{Size, CutOff, TrailingByte}
 use Rattle.refusals.specs.declared.Refusal.{Refusal}
@@ -8,20 +8,20 @@ use Rattle.refusals.specs.Table.{refused}
 use Rattle.little_endian.specs.Words.{u32_at}
 use Rattle.strip.specs.declared.Cursor.{Cursor}
 use Rattle.strip.specs.Reading.{read_strip}
-use Rattle.frame.specs.declared.Header.{Header}
+use Rattle.screen.specs.declared.Screen.{Screen}
+use Rattle.screen.specs.Sizes.{size_fits}
 use Rattle.frame.specs.declared.Strips.{Strips}
 
 -- ---- "The header is width, height, band height, u32 each."
--- 1: a size "is 0 or above 32,768"
-unfoldable pub size_fits : ℕ → Bool
-size_fits n = pick (eqb n 0) false (leb n 32768)
+abbrev pub sizes_at : List ℕ → Screen
+sizes_at s = record { width = u32_at s 0; height = u32_at s 4; band_height = u32_at s 8 }
 
 -- 2: "fewer than 12 bytes"; 1 and 2 of the header have position 0
-unfoldable pub header_of : List ℕ → Result Header Refusal
+unfoldable pub header_of : List ℕ → Result Screen Refusal
 header_of s =
     pick (ltb (length s) 12)
     (refused CutOff 0)
-    (pick (size_fits (u32_at s 0) && (size_fits (u32_at s 4) && size_fits (u32_at s 8))) (Ok (record { width = u32_at s 0; height = u32_at s 4; band_height = u32_at s 8 })) (refused Size 0))
+    (pick (size_fits (u32_at s 0) && (size_fits (u32_at s 4) && size_fits (u32_at s 8))) (Ok (sizes_at s)) (refused Size 0))
 
 -- ---- "Then the old strip, then the new."
 -- 8: "a byte follows" the new END

@@ -1,20 +1,16 @@
 // A whole input: its header, and the strips behind it, or the first refusal. Any bytes will do, an empty input too.
 #![tactic(auto)]
 
-ghost use Rattle.std.specs.Prelude.{◌≡◌, ◌&&◌, ◌≤◌, length};
+ghost use Rattle.std.specs.Prelude.{◌≡◌, ◌≤◌, length};
 ghost use Rattle.frame.specs.Frame as Frame;
 ghost use Rattle.strip.specs.Reading.{read_strip};
 
 use refusals::{Fault, Refusal};
+use screen::Screen;
 use strip::Cursor;
 
-// The sizes of the screen and of its bands, all of them from 1 to 32,768.
-#[derive(Clone, Copy, Debug, PartialEq, Eq)]
-pub struct Header {
-    pub width: u32,
-    pub height: u32,
-    pub band_height: u32,
-}
+// How many bytes the header has.
+const HEADER_LENGTH: usize = 12;
 
 // Where the old strip ended, and where the new one.
 #[derive(Clone, Copy)]
@@ -23,36 +19,28 @@ pub struct Strips {
     pub new: Cursor,
 }
 
-#[tactic(auto, unfolding(crate::specs::Frame::size_fits))]
-fn size_fits(n: u32) -> bool
-    ensures { result ≡ Frame.size_fits n }
+// The sizes that a header has, whatever they are.
+fn sizes_at(s: &[u8]) -> Screen
+    ensures { result ≡ Frame.sizes_at s.now }
 {
-    n != 0 && n <= 32768
+    Screen {
+        width: little_endian::u32_at(s, 0),
+        height: little_endian::u32_at(s, 4),
+        band_height: little_endian::u32_at(s, 8),
+    }
 }
 
-fn sizes_fit(width: u32, height: u32, band_height: u32) -> bool
-    ensures { result ≡ (Frame.size_fits width && (Frame.size_fits height && Frame.size_fits band_height)) }
-{
-    size_fits(width) && size_fits(height) && size_fits(band_height)
-}
-
-pub fn read_header(s: &[u8]) -> Result<Header, Refusal>
+pub fn read_header(s: &[u8]) -> Result<Screen, Refusal>
     ensures { result ≡ Frame.header_of s.now }
 {
-    if s.len() < 12 {
+    if s.len() < HEADER_LENGTH {
         return Err(Fault::CutOff.at(0));
     }
-    let width = little_endian::u32_at(s, 0);
-    let height = little_endian::u32_at(s, 4);
-    let band_height = little_endian::u32_at(s, 8);
-    if !sizes_fit(width, height, band_height) {
+    let screen = sizes_at(s);
+    if !screen.fits() {
         return Err(Fault::Size.at(0));
     }
-    Ok(Header {
-        width,
-        height,
-        band_height,
-    })
+    Ok(screen)
 }
 
 // The end of an input's last strip, unless a byte follows.
@@ -69,7 +57,7 @@ pub fn at_end(s: &[u8], last: Cursor) -> Result<Cursor, Refusal>
 pub fn first_frame(s: &[u8]) -> Result<Cursor, Refusal>
     ensures { result ≡ Frame.first_of s.now }
 {
-    let new = strip::read_strip(s, 12)?;
+    let new = strip::read_strip(s, HEADER_LENGTH)?;
     at_end(s, new)
 }
 
@@ -86,6 +74,6 @@ fn new_strip(s: &[u8], old: Cursor) -> Result<Strips, Refusal>
 pub fn both_strips(s: &[u8]) -> Result<Strips, Refusal>
     ensures { result ≡ Frame.both_of s.now }
 {
-    let old = strip::read_strip(s, 12)?;
+    let old = strip::read_strip(s, HEADER_LENGTH)?;
     new_strip(s, old)
 }

@@ -1,12 +1,12 @@
 -- The turns of the loop that writes a band's regions as words and counts their pixels. Assumes nothing.
 use mathlib.Core.Path.{◌≡◌, refl, sym, ap, ◌∙◌}
 use mathlib.Core.List.{List, [], ◌∷◌, ◌++◌, map, append_assoc, append-nil, map-append}
-use Prim.Native.Nat.{ℕ, suc, ◌+◌, ◌*◌, ◌/◌, ◌%◌, ◌≤◌, ◌<◌}
+use Prim.Native.Nat.{ℕ, suc, ◌+◌, ◌-◌, ◌*◌, ◌/◌, ◌%◌, ◌≤◌, ◌<◌}
 use native.Mathlib.Nat.{mul-le-mul}
 use native.Mathlib.Numerals.{add-one}
 use native.Mathlib.Omega.{arith}
-use lib.ListN.{length, take, drop, get_or, set, length-append, length-map, take-append-drop}
-use lib.Seq.{sets-eq, take_at, drop_at, drop-drop, take-suc, length-take-le}
+use lib.ListN.{length, take, drop, get_or, set, length-append, length-map, length-drop, drop_of_length-le}
+use lib.Seq.{take_all, sets-eq, take_at, drop_at, drop-drop, take-suc, length-take-le}
 use Rattle.device.specs.declared.DeviceRegion.{DeviceRegion}
 use Rattle.device.specs.Region.{area}
 use Rattle.bands.specs.Keys.{from_yx}
@@ -80,54 +80,78 @@ put_behind front old ws out n k e is =
     let d : drop (n + k) out ≡ drop (n + k) old = sym (drop-drop k n out) ∙ ap (drop k) (ap (drop n) is ∙ drop_at front (drop n old) n e) ∙ drop-drop k n old in
     λ i. t i ++ ws ++ d i
 
+-- ---- words in front of a part, which goes on to the end
+
+module _ (out : List ℕ) (k : ℕ) where
+  part_is : take (length out - k) (drop k out) ≡ drop k out
+  part_is = take_all (length out - k) (drop k out) (omega (arith, length-drop k out))
+
+  pub part_length : length (take (length out - k) (drop k out)) ≡ length out - k
+  part_length = ap length part_is ∙ length-drop k out
+
+  none_behind : drop (length out - k) (drop k out) ≡ []
+  none_behind = drop_of_length-le (drop k out) (omega (arith, length-drop k out))
+
+  part_back : (part : List ℕ) → take k out ++ (part ++ drop (length out - k) (drop k out)) ≡ take k out ++ part
+  part_back part = ap (λ t. take k out ++ (part ++ t)) none_behind ∙ ap (λ t. take k out ++ t) (append-nil part)
+
+  pub put_length : (part : List ℕ) → length part ≡ length (take (length out - k) (drop k out)) → k ≤ length out → length (take k out ++ (part ++ drop (length out - k) (drop k out))) ≡ length out
+  put_length part e h = ap length (part_back part) ∙ length-append (take k out) part ∙ omega (arith, length-take-le k out h, e, part_length)
+
+-- words of n regions in front of it are words in the whole
+pub put_part : (out ws part : List ℕ) (at m n : ℕ) → n ≡ m → part ≡ ws ++ drop (4 * n) (take (length out - 4 * at) (drop (4 * at) out)) → take (4 * at) out ++ (part ++ drop (length out - 4 * at) (drop (4 * at) out)) ≡ take (4 * at) out ++ ws ++ drop (4 * (at + m)) out
+put_part out ws part at m n q e =
+    let z : 4 * at + 4 * n ≡ 4 * (at + m) = omega arith in
+    part_back out (4 * at) part
+    ∙ ap (λ t. take (4 * at) out ++ t) (e ∙ ap (λ t. ws ++ drop (4 * n) t) (part_is out (4 * at)) ∙ ap (λ t. ws ++ t) (drop-drop (4 * n) (4 * at) out ∙ ap (λ (k : ℕ). drop k out) z))
+    ∙ sym (append_assoc (take (4 * at) out) ws (drop (4 * (at + m)) out))
+
 -- ---- the loop
 
--- Of the first m regions of `work`, i are written to out from region number `at` on, and their pixels counted.
-pub record Writing (work : List ℕ) (m : ℕ) (old : List ℕ) (at : ℕ) (out : List ℕ) (pixels i : ℕ) : Type 0 where
-  pub passed : i ≤ m
-  pub source : m ≤ length work
+-- Of the regions of `work`, i are written to out, and their pixels counted.
+pub record Writing (work old out : List ℕ) (pixels i : ℕ) : Type 0 where
+  pub passed : i ≤ length work
   pub same_length : length out ≡ length old
   pub pixels_are : pixels ≡ pixels_of (map from_yx (take i work))
-  pub words_are : out ≡ take (4 * at) old ++ words_of (map from_yx (take i work)) ++ drop (4 * (at + i)) old
+  pub words_are : out ≡ words_of (map from_yx (take i work)) ++ drop (4 * i) old
 
-pub write_start : (work old : List ℕ) (m at : ℕ) → m ≤ length work → Writing work m old at old 0 0
-write_start work old m at s =
-    let z : 4 * (at + 0) ≡ 4 * at = omega arith in
-    record {
-      passed = omega arith;
-      source = s;
-      same_length = refl;
-      pixels_are = sym pixels_none;
-      words_are = sym (rw z (ap (λ t. take (4 * at) old ++ t ++ drop (4 * at) old) words_none ∙ ap (λ t. t ++ drop (4 * at) old) (append-nil (take (4 * at) old)) ∙ take-append-drop (4 * at) old));
-    }
+pub write_start : (work old : List ℕ) → Writing work old old 0 0
+write_start work old = record {
+  passed = omega arith;
+  same_length = refl;
+  pixels_are = sym pixels_none;
+  words_are = sym (ap (λ t. t ++ old) words_none);
+}
 
-module _ {work : List ℕ} {m : ℕ} {old : List ℕ} {at : ℕ} {out : List ℕ} {pixels i : ℕ} (w : Writing work m old at out pixels i) where
+module _ {work old out : List ℕ} {pixels i : ℕ} (w : Writing work old out pixels i) where
   taken : length (map from_yx (take i work)) ≡ i
-  taken = length-map (take i work) from_yx ∙ length-take-le i work (omega (arith, w.passed, w.source))
+  taken = length-map (take i work) from_yx ∙ length-take-le i work w.passed
 
   -- the pixels so far
   pub pixels_low : pixels ≤ 4294967296 * i
-  pixels_low = omega (arith, w.pixels_are, pixels_most (take i work), length-take-le i work (omega (arith, w.passed, w.source)))
+  pixels_low = omega (arith, w.pixels_are, pixels_most (take i work), length-take-le i work w.passed)
 
-  module _ (less : i < m) (room : 4 * (at + m) ≤ length old) (r : DeviceRegion) (is : r ≡ from_yx (get_or work i 0)) where
+  module _ (less : i < length work) (r : DeviceRegion) (is : r ≡ from_yx (get_or work i 0)) where
     one_more : map from_yx (take (i + 1) work) ≡ map from_yx (take i work) ++ (r ∷ [])
-    one_more = rw (add-one i) (ap (map from_yx) (take-suc work i 0 (omega (arith, w.source))) ∙ map-append from_yx (take i work) (get_or work i 0 ∷ []) ∙ ap (λ t. map from_yx (take i work) ++ (t ∷ [])) (sym is))
+    one_more = rw (add-one i) (ap (map from_yx) (take-suc work i 0 less) ∙ map-append from_yx (take i work) (get_or work i 0 ∷ []) ∙ ap (λ t. map from_yx (take i work) ++ (t ∷ [])) (sym is))
 
     words_more : words_of (map from_yx (take (i + 1) work)) ≡ words_of (map from_yx (take i work)) ++ region_words r
     words_more = ap words_of one_more ∙ words_append (map from_yx (take i work)) (r ∷ []) ∙ ap (λ t. words_of (map from_yx (take i work)) ++ t) (words_one r)
 
-    pub write_next : (next : List ℕ) → length next ≡ length out → next ≡ take (4 * (at + i)) out ++ region_words r ++ drop (4 * (at + i) + 4) out → (p : ℕ) → p ≡ area r → Writing work m old at next (pixels + p) (i + 1)
+    pub write_next : (next : List ℕ) → length next ≡ length out → next ≡ take (4 * i) out ++ region_words r ++ drop (4 * i + 4) out → (p : ℕ) → p ≡ area r → Writing work old next (pixels + p) (i + 1)
     write_next next len e p ep =
-        let n : length (take (4 * at) old ++ words_of (map from_yx (take i work))) ≡ 4 * (at + i) = length-append (take (4 * at) old) _ ∙ omega (arith, length-take-le (4 * at) old (omega arith), words_length (map from_yx (take i work)), taken) in
-        let z : 4 * (at + (i + 1)) ≡ 4 * (at + i) + 4 = omega arith in
+        let n : length (words_of (map from_yx (take i work))) ≡ 4 * i = omega (arith, words_length (map from_yx (take i work)), taken) in
+        let z : 4 * (i + 1) ≡ 4 * i + 4 = omega arith in
         record {
           passed = omega arith;
-          source = w.source;
           same_length = len ∙ w.same_length;
           pixels_are = omega (arith, w.pixels_are, ep, pixels_one r, ap pixels_of one_more, pixels_append (map from_yx (take i work)) (r ∷ []));
-          words_are = e ∙ rw z (put_behind (take (4 * at) old ++ words_of (map from_yx (take i work))) old (region_words r) out (4 * (at + i)) 4 n w.words_are
-              ∙ ap (λ t. t ++ drop (4 * (at + i) + 4) old) (append_assoc (take (4 * at) old) (words_of (map from_yx (take i work))) (region_words r) ∙ ap (λ t. take (4 * at) old ++ t) (sym words_more)));
+          words_are = e ∙ rw z (put_behind (words_of (map from_yx (take i work))) old (region_words r) out (4 * i) 4 n w.words_are
+              ∙ ap (λ t. t ++ drop (4 * i + 4) old) (sym words_more));
         }
 
-  pub write_end : m ≤ i → (pixels ≡ pixels_of (map from_yx (take m work))) × (out ≡ take (4 * at) old ++ words_of (map from_yx (take m work)) ++ drop (4 * (at + m)) old)
-  write_end past = let e : i ≡ m = omega (arith, w.passed) in rw (← e) (w.pixels_are, w.words_are)
+  pub write_end : length work ≤ i → (pixels ≡ pixels_of (map from_yx work)) × (out ≡ words_of (map from_yx work) ++ drop (4 * length work) old)
+  write_end past =
+      let e : i ≡ length work = omega (arith, w.passed) in
+      let a : take i work ≡ work = take_all i work past in
+      (w.pixels_are ∙ ap (λ t. pixels_of (map from_yx t)) a, w.words_are ∙ (λ j. words_of (map from_yx (a j)) ++ drop (4 * e j) old))

@@ -4,7 +4,7 @@ use Rattle.scheduler.proofs.Writes.{write_start, write_next, write_end, pixels_l
 use Rattle.scheduler.proofs.put_band.Goals as goal
 
 pub loop-i-init : goal.loop-i-init
-loop-i-init c = write_start _ _ _ _ c.requires.0
+loop-i-init c = write_start _ _
 
 pub overflow_add-sum : goal.overflow_add-sum
 overflow_add-sum c =
@@ -12,7 +12,7 @@ overflow_add-sum c =
 
 pub loop-i-preserved : goal.loop-i-preserved
 loop-i-preserved c =
-    write_next c.loop-i.invariant c.loop-i-test.true c.requires.2 _ c.from_yx-r.ensures _ c.put_region.auto.out c.put_region.ensures _ c.area-sum.ensures
+    write_next c.loop-i.invariant c.loop-i-test.true _ c.from_yx-r.ensures _ c.put_region.auto.out c.put_region.ensures _ c.area-sum.ensures
 
 pub returns : goal.returns
 returns c =

@@ -1,0 +1,12 @@
+-- The sizes of a screen and of its bands.
+use Rattle.std.specs.Prelude.{Bool, false, ◌&&◌, ℕ, leb, eqb}
+use Rattle.lists.specs.Pick.{pick}
+use Rattle.screen.specs.declared.Screen.{Screen}
+
+-- 1: a size "is 0 or above 32,768"
+unfoldable pub size_fits : ℕ → Bool
+size_fits n = pick (eqb n 0) false (leb n 32768)
+
+-- none of the three is
+abbrev pub fits : Screen → Bool
+fits s = size_fits s.width && (size_fits s.height && size_fits s.band_height)
