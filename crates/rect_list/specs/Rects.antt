@@ -28,8 +28,9 @@ pub record Added (k : ℕ) (xs : List Float) (n : ℕ) (l : List Rect) (ys : Lis
   pub most : m ≤ n + k
 
 -- the same of a list and what became of it: its words lie where they lay, so that what stands in them stands in the lent slice
-abbrev pub AddedTo : ℕ → RectList → List Rect → RectList → Type 0
-AddedTo k old l new = (Added k old.words.now old.count l new.words.now new.count) × (new.words.ghost_name ≡ old.words.ghost_name)
+pub record AddedTo (k : ℕ) (old : RectList) (l : List Rect) (new : RectList) : Type 0 where
+  pub added : Added k old.words.now old.count l new.words.now new.count
+  pub same_place : new.words.ghost_name ≡ old.words.ghost_name
 
 -- the words of a list of boxes
 unfoldable pub words_of : List Rect → List Float

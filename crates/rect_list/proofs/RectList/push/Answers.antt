@@ -7,6 +7,6 @@ use Rattle.rect_list.proofs.RectList.push.Goals.{then-self, else-self}
 pub returns : goal.returns
 returns c =
     elim c.if-self.branch [
-      | then-self w ↦ rw w.self-is (put_room _ _ _ _ w.if-self.true w.put_rect.ensures, refl)
-      | else-self w ↦ rw w.self-is (put_full _ _ _ w.if-self.false, refl)
+      | then-self w ↦ rw w.self-is record { added = put_room _ _ _ _ w.if-self.true w.put_rect.ensures; same_place = refl }
+      | else-self w ↦ rw w.self-is record { added = put_full _ _ _ w.if-self.false; same_place = refl }
     ]
