@@ -2,18 +2,20 @@
 // compared or placed is read, from the strip where it stands.
 #![tactic(auto)]
 
-ghost use Rattle.std.specs.Prelude.{◌≡◌, ◌+◌, ◌-◌, ◌*◌, ◌≤◌, ◌<◌, length};
+ghost use Rattle.std.specs.Prelude.{◌≡◌, ◌+◌, ◌-◌, ◌*◌, ◌^◌, ◌≤◌, ◌<◌, length};
 ghost use Rattle.operand_equality.specs.Operands.{same_glyph, equal_glyph, equal_glyphs};
 ghost use Rattle.strip_format.specs.Format.{glyph_at, glyphs_from};
-ghost use Rattle.rect_list.specs.Rects.{Added};
+ghost use Rattle.rect_list.specs.Rects.{AddedTo};
 ghost use Rattle.glyph_changes.specs.Runs.{glyphs_of, Inside, most_boxes, windowed, boxes_by, changed_at, changed_by};
 
 use affine::Affine;
 use geometry::Rect;
+use rect_list::RectList;
+use strip_format::rect_inside;
 
 // A run's glyphs: where the bytes of the first one begin, how many there are, and the transform and the clip
 // number that bring them to the window.
-#[derive(Clone, Copy)]
+#[derive(Clone, Copy, Debug, PartialEq)]
 pub struct Run {
     pub glyphs: usize,
     pub count: u32,
@@ -38,15 +40,8 @@ fn equal_at(s: &[u8], p: usize, q: usize) -> bool
     requires { (p + 45 ≤ length s.now) × (q + 45 ≤ length s.now) }
     ensures { result ≡ equal_glyph (glyph_at s.now p) (glyph_at s.now q) }
 {
-    if little_endian::same_bytes(s, p, q, 45) {
-        return true;
-    }
-    if !glyph_eq(s, p, q) {
-        return false;
-    }
-    let b = strip_format::rect_inside(s, p + 13);
-    let c = strip_format::rect_inside(s, q + 13);
-    b.same_edges(c)
+    little_endian::same_bytes(s, p, q, 45)
+        || (glyph_eq(s, p, q) && rect_inside(s, p + 13).same_edges(rect_inside(s, q + 13)))
 }
 
 // Whether two runs have equal glyphs, with equal boxes, and as many.
@@ -73,28 +68,18 @@ fn window_at(s: &[u8], boxes: &[f64], run: Run, at: usize) -> Rect
 {
     let number = run.clip;
     let transform = run.transform;
-    let bounds = strip_format::rect_inside(s, at + 13);
+    let bounds = rect_inside(s, at + 13);
     display_list::window_glyph_bounds(boxes, number, transform, bounds)
 }
 
 // Appends the boxes of a run's glyphs from the one of a number on.
-fn append_glyph_bounds(
-    s: &[u8],
-    boxes: &[f64],
-    run: Run,
-    first: usize,
-    rects: &mut [f64],
-    n: usize,
-) -> usize
-    requires { (8 * run.clip ≤ length boxes.now) × Inside s.now run.glyphs run.count × (first ≤ run.count) × (n + (run.count - first) < 9223372036854775808) }
-    ensures { Added (run.count - first) rects.old n (boxes_by (windowed boxes.now run) (glyphs_from s.now (run.glyphs + 45 * first) (run.count - first))) rects.new result }
+fn append_glyph_bounds(s: &[u8], boxes: &[f64], run: Run, first: usize, rects: &mut RectList)
+    requires { (8 * run.clip ≤ length boxes.now) × Inside s.now run.glyphs run.count × (first ≤ run.count) × (rects.old.count + (run.count - first) < 2 ^ 63) }
+    ensures { AddedTo (run.count - first) rects.old (boxes_by (windowed boxes.now run) (glyphs_from s.now (run.glyphs + 45 * first) (run.count - first))) rects.new }
 {
-    let mut m = n;
     for k in first..run.count as usize {
-        let b = window_at(s, boxes, run, run.glyphs + 45 * k);
-        m = rect_list::append(rects, m, b);
+        rects.push(window_at(s, boxes, run, run.glyphs + 45 * k));
     }
-    m
 }
 
 // Appends what changed from the glyph at an offset to the one at another: nothing where they are painted alike, and
@@ -106,43 +91,31 @@ fn append_changed(
     new: Run,
     at: usize,
     other: usize,
-    rects: &mut [f64],
-    n: usize,
-) -> usize
-    requires { (8 * old.clip ≤ length boxes.now) × (8 * new.clip ≤ length boxes.now) × (at + 45 ≤ length s.now) × (other + 45 ≤ length s.now) × (n + 1 < 9223372036854775808) }
-    ensures { Added 1 rects.old n (changed_at (windowed boxes.now old) (windowed boxes.now new) (glyph_at s.now at) (glyph_at s.now other)) rects.new result }
+    rects: &mut RectList,
+)
+    requires { (8 * old.clip ≤ length boxes.now) × (8 * new.clip ≤ length boxes.now) × (at + 45 ≤ length s.now) × (other + 45 ≤ length s.now) × (rects.old.count + 1 < 2 ^ 63) }
+    ensures { AddedTo 1 rects.old (changed_at (windowed boxes.now old) (windowed boxes.now new) (glyph_at s.now at) (glyph_at s.now other)) rects.new }
 {
-    if little_endian::same_bytes(s, at, other, 45) {
-        return n;
-    }
-    if glyph_eq(s, at, other) {
-        return n;
+    if little_endian::same_bytes(s, at, other, 45) || glyph_eq(s, at, other) {
+        return;
     }
     let b = window_at(s, boxes, old, at);
     let c = window_at(s, boxes, new, other);
-    rect_list::append(rects, n, b.union(c))
+    rects.push(b.union(c));
 }
 
 // Appends the boxes of what changed from a run to another: at each common place whose glyphs are painted
 // differently the union of both boxes, and then the boxes of the glyphs that only one of them has.
-pub fn changed_glyph_bounds(
-    s: &[u8],
-    boxes: &[f64],
-    old: Run,
-    new: Run,
-    rects: &mut [f64],
-    n: usize,
-) -> usize
-    requires { (8 * old.clip ≤ length boxes.now) × (8 * new.clip ≤ length boxes.now) × Inside s.now old.glyphs old.count × Inside s.now new.glyphs new.count × (n + most_boxes < 9223372036854775808) }
-    ensures { Added most_boxes rects.old n (changed_by (windowed boxes.now old) (windowed boxes.now new) (glyphs_of s.now old) (glyphs_of s.now new)) rects.new result }
+pub fn changed_glyph_bounds(s: &[u8], boxes: &[f64], old: Run, new: Run, rects: &mut RectList)
+    requires { (8 * old.clip ≤ length boxes.now) × (8 * new.clip ≤ length boxes.now) × Inside s.now old.glyphs old.count × Inside s.now new.glyphs new.count × (rects.old.count + most_boxes < 2 ^ 63) }
+    ensures { AddedTo most_boxes rects.old (changed_by (windowed boxes.now old) (windowed boxes.now new) (glyphs_of s.now old) (glyphs_of s.now new)) rects.new }
 {
     let common = old.count.min(new.count) as usize;
-    let mut m = n;
     for k in 0..common {
         let p = old.glyphs + 45 * k;
         let q = new.glyphs + 45 * k;
-        m = append_changed(s, boxes, old, new, p, q, rects, m);
+        append_changed(s, boxes, old, new, p, q, rects);
     }
-    m = append_glyph_bounds(s, boxes, old, common, rects, m);
-    append_glyph_bounds(s, boxes, new, common, rects, m)
+    append_glyph_bounds(s, boxes, old, common, rects);
+    append_glyph_bounds(s, boxes, new, common, rects);
 }

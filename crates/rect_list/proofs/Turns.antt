@@ -6,8 +6,9 @@ use native.Mathlib.Omega.{arith}
 use lib.ListN.{length}
 use lib.Ieee.{Float}
 use Rattle.geometry.specs.declared.Rect.{Rect}
-use Rattle.rect_list.specs.Rects.{Filled, filled, after, Added, Listed}
-use Rattle.rect_list.proofs.Appends.{after_append, length_after, listed}
+use Rattle.rect_list.specs.Rects.{Filled, filled, after, Added, AddedTo, Listed}
+use Rattle.rect_list.specs.declared.RectList.{RectList}
+use Rattle.rect_list.proofs.Appends.{after_append, length_after, listed, added_both, added_none, added_as}
 
 -- `whole` was to be appended to n boxes in xs; there are m in ys, and `rest` is left
 pub record Going (xs : List Float) (n : ℕ) (whole : List Rect) (ys : List Float) (m : ℕ) (rest : List Rect) : Type 0 where
@@ -39,3 +40,34 @@ going_length {xs} {ys} {n} {m} {whole} {rest} g = sym (length_after (filled ys m
 -- the same, of a list that began with nothing
 pub going_listed : {k : ℕ} {xs ys zs : List Float} {m p : ℕ} {whole rest done : List Rect} → Going xs 0 whole ys m rest → rest ≡ done → Added k ys m done zs p → Listed xs whole zs p
 going_listed {k} {xs} {ys} {zs} {m} {p} {whole} g e a = listed p xs whole zs p (going_last {j = p} g e (omega arith) a)
+
+-- ---- the same of a list, whose words stay where they lie
+pub record GoingTo (old : RectList) (whole : List Rect) (new : RectList) (rest : List Rect) : Type 0 where
+  pub going : Going old.words.now old.count whole new.words.now new.count rest
+  pub same_place : new.words.ghost_name ≡ old.words.ghost_name
+
+pub to_start : {old : RectList} {whole : List Rect} → GoingTo old whole old whole
+to_start = record { going = going_start; same_place = refl }
+
+pub to_add : {k : ℕ} {old now new : RectList} {whole rest done left : List Rect} → GoingTo old whole now rest → rest ≡ done ++ left → AddedTo k now done new → GoingTo old whole new left
+to_add g e a = record { going = going_add g.going e a.added; same_place = a.same_place ∙ g.same_place }
+
+pub to_skip : {old now : RectList} {whole rest left : List Rect} → GoingTo old whole now rest → rest ≡ left → GoingTo old whole now left
+to_skip g e = record { going = going_skip g.going e; same_place = g.same_place }
+
+pub to_last : {k j : ℕ} {old now new : RectList} {whole rest done : List Rect} → GoingTo old whole now rest → rest ≡ done → new.count ≤ old.count + j → AddedTo k now done new → AddedTo j old whole new
+to_last g e h a = record { added = going_last g.going e h a.added; same_place = a.same_place ∙ g.same_place }
+
+pub to_end : {k : ℕ} {old now : RectList} {whole rest : List Rect} → GoingTo old whole now rest → rest ≡ [] → now.count ≤ old.count + k → AddedTo k old whole now
+to_end g e h = record { added = going_end g.going e h; same_place = g.same_place }
+
+-- ---- lists appended one after the other
+pub to_both : {j k : ℕ} {old now new : RectList} {a b : List Rect} → AddedTo j old a now → AddedTo k now b new → AddedTo (j + k) old (a ++ b) new
+to_both s t = record { added = added_both s.added t.added; same_place = t.same_place ∙ s.same_place }
+
+pub to_none : {k : ℕ} {old : RectList} → AddedTo k old [] old
+to_none {k} = record { added = added_none {k = k}; same_place = refl }
+
+-- the same list by another name, and a larger bound
+pub to_as : {k j : ℕ} {old new : RectList} {a b : List Rect} → a ≡ b → k ≤ j → AddedTo k old a new → AddedTo j old b new
+to_as e h s = record { added = added_as e h s.added; same_place = s.same_place }

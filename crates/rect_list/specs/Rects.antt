@@ -3,6 +3,7 @@ use Rattle.std.specs.Prelude.{◌≡◌, List, [], ◌∷◌, ℕ, ◌+◌, ◌*
 use Rattle.lists.specs.Pick.{pick}
 use Rattle.geometry.specs.declared.Rect.{Rect}
 use Rattle.rect_words.specs.Words.{put_rect}
+use Rattle.rect_list.specs.declared.RectList.{RectList}
 
 -- the words, and how many boxes were appended
 pub record Filled : Type 0 where
@@ -25,6 +26,11 @@ after f (r ∷ l) = after (put f r) l
 pub record Added (k : ℕ) (xs : List Float) (n : ℕ) (l : List Rect) (ys : List Float) (m : ℕ) : Type 0 where
   pub state : filled ys m ≡ after (filled xs n) l
   pub most : m ≤ n + k
+
+-- the same of a list and what became of it: its words lie where they lay, so that what stands in them stands in the lent slice
+pub record AddedTo (k : ℕ) (old : RectList) (l : List Rect) (new : RectList) : Type 0 where
+  pub added : Added k old.words.now old.count l new.words.now new.count
+  pub same_place : new.words.ghost_name ≡ old.words.ghost_name
 
 -- the words of a list of boxes
 unfoldable pub words_of : List Rect → List Float

@@ -2,33 +2,47 @@
 // list that did not fit says how much room it wants.
 #![tactic(auto)]
 
-ghost use Rattle.std.specs.Prelude.{[], ◌∷◌, ◌+◌, ◌<◌};
+ghost use Rattle.std.specs.Prelude.{◌≡◌, [], ◌∷◌, ◌+◌, ◌^◌, ◌<◌};
 ghost use Rattle.differences.specs.Differences.{list_of};
-ghost use Rattle.rect_list.specs.Rects.{Added};
+ghost use Rattle.rect_list.specs.Rects.{AddedTo};
 
 use geometry::Rect;
 
-// Appends a box to n others; the answer is how many there are then.
-pub fn append(rects: &mut [f64], n: usize, rect: Rect) -> usize
-    requires { n < 9223372036854775808 }
-    ensures { Added 1 rects.old n (rect ∷ []) rects.new result }
-{
-    if n < rects.len() / 4 {
-        rect_words::put_rect(rects, 4 * n, rect);
-    }
-    n + 1
+// The lent words, and how many boxes were appended: more than are stored, where they found no room.
+#[derive(Debug)]
+pub struct RectList<'a> {
+    pub words: &'a mut [f64],
+    pub count: usize,
 }
 
-// Appends the parts that were kept, in order.
-pub fn append_parts(rects: &mut [f64], n: usize, parts: [Option<Rect>; 4]) -> usize
-    requires { n + 4 < 9223372036854775808 }
-    ensures { Added 4 rects.old n (list_of parts) rects.new result }
-{
-    let mut count = n;
-    for part in parts {
-        if let Some(rect) = part {
-            count = append(rects, count, rect);
+impl<'a> RectList<'a> {
+    // The list that holds nothing yet.
+    pub fn new(words: &'a mut [f64]) -> RectList<'a>
+        ensures { (result.words ≡ words.entry) × (result.count ≡ 0) }
+    {
+        RectList { words, count: 0 }
+    }
+
+    // Appends a box.
+    pub fn push(&mut self, rect: Rect)
+        requires { self.old.count < 2 ^ 63 }
+        ensures { AddedTo 1 self.old (rect ∷ []) self.new }
+    {
+        if self.count < self.words.len() / 4 {
+            rect_words::put_rect(self.words, 4 * self.count, rect);
+        }
+        self.count += 1;
+    }
+
+    // Appends the parts that were kept, in order.
+    pub fn extend_parts(&mut self, parts: [Option<Rect>; 4])
+        requires { self.old.count + 4 < 2 ^ 63 }
+        ensures { AddedTo 4 self.old (list_of parts) self.new }
+    {
+        for part in parts {
+            if let Some(rect) = part {
+                self.push(rect);
+            }
         }
     }
-    count
 }
