@@ -36,6 +36,10 @@ of_points f ps =
     let nowhere : Point = record { x = nan; y = nan } in
     f (get_or ps 0 nowhere) (get_or ps 1 nowhere) (get_or ps 2 nowhere) (get_or ps 3 nowhere)
 
+-- a function of four numbers, of the first four of a list; no code has fewer
+abbrev pub of_numbers : (Float → Float → Float → Float → Float) → List Float → Float
+of_numbers f xs = f (get_or xs 0 nan) (get_or xs 1 nan) (get_or xs 2 nan) (get_or xs 3 nan)
+
 -- the least of four numbers, and the greatest
 abbrev pub least : Float → Float → Float → Float → Float
 least p q r s = smaller (smaller (smaller p q) r) s

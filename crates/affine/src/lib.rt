@@ -32,15 +32,17 @@ impl From<[f64; 6]> for Affine {
     }
 }
 
-fn least(p: f64, q: f64, r: f64, s: f64) -> f64
-    ensures { result ≡ Affines.least p q r s }
+fn least(numbers: [f64; 4]) -> f64
+    ensures { result ≡ Affines.of_numbers Affines.least numbers }
 {
+    let [p, q, r, s] = numbers;
     floats::smaller(floats::smaller(floats::smaller(p, q), r), s)
 }
 
-fn greatest(p: f64, q: f64, r: f64, s: f64) -> f64
-    ensures { result ≡ Affines.greatest p q r s }
+fn greatest(numbers: [f64; 4]) -> f64
+    ensures { result ≡ Affines.of_numbers Affines.greatest numbers }
 {
+    let [p, q, r, s] = numbers;
     floats::larger(floats::larger(floats::larger(p, q), r), s)
 }
 
@@ -49,12 +51,13 @@ fn greatest(p: f64, q: f64, r: f64, s: f64) -> f64
 fn bounding_box(corners: [Point; 4]) -> Rect
     ensures { result ≡ Affines.of_points Affines.bounding_box corners }
 {
-    let [p, q, r, s] = corners;
+    let xs = corners.map(|p| p.x);
+    let ys = corners.map(|p| p.y);
     Rect {
-        x0: least(p.x, q.x, r.x, s.x),
-        y0: least(p.y, q.y, r.y, s.y),
-        x1: greatest(p.x, q.x, r.x, s.x),
-        y1: greatest(p.y, q.y, r.y, s.y),
+        x0: least(xs),
+        y0: least(ys),
+        x1: greatest(xs),
+        y1: greatest(ys),
     }
 }
 

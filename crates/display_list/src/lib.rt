@@ -91,7 +91,7 @@ impl ListState {
     }
 
     // Appends a command, given by where its bytes begin, under the open clips.
-    #[tactic(auto, using(crate::proofs::Rooms::command_fits), unfolding(crate::specs::Lists::item_words, crate::specs::Lists::item_boxes, crate::specs::Lists::put_item))]
+    #[tactic(auto, unfolding(crate::specs::Lists::item_words, crate::specs::Lists::item_boxes, crate::specs::Lists::put_item))]
     pub fn push(
         mut self,
         items: &mut [u64],
@@ -104,6 +104,7 @@ impl ListState {
         ensures held { items.new ≡ Lists.item_words self items.old item_boxes.old offset }
         ensures boxed { item_boxes.new ≡ Lists.item_boxes self items.old item_boxes.old bounds }
     {
+        #[tactic(auto, using(crate::proofs::Rooms::command_fits))]
         if self.command_room(items, item_boxes) {
             let m = self.commands;
             items[2 * m] = offset as u64;
