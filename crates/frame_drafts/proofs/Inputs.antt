@@ -3,7 +3,7 @@ use Rattle.std.specs.Prelude.{Result, Ok, Err}
 use Rattle.refusals.specs.declared.Fault.TheVariants.{NoRoom}
 use Rattle.refusals.specs.declared.Refusal.{Refusal}
 use Rattle.refusals.specs.Table.{refused}
-use Rattle.std.proofs.Common.{◌≡◌, ℕ, ◌+◌, ◌*◌, ◌<◌, ◌≤◌, Bool, true, false, ◌&&◌, eqb, ltb, leb, List, [], ◌∷◌, map, length, take, drop, length-drop, ◌/◌, sym, refl, ap, ◌∙◌, subst, arith, w64, Fits, leb-true}
+use Rattle.std.proofs.Common.{◌≡◌, ℕ, ◌+◌, ◌-◌, ◌*◌, ◌<◌, ◌≤◌, Bool, true, false, ◌&&◌, eqb, ltb, leb, List, [], ◌∷◌, map, length, take, drop, length-drop, ◌/◌, sym, refl, ap, ◌∙◌, subst, arith, w64, Fits, leb-true}
 use lib.Ieee.{Float, binary64, of_bits, of_int}
 use lib.Ieee.Fits.{and_l, and_r}
 use borrow.Author.Tests.{eqb-false}
@@ -143,7 +143,16 @@ module _ (s : List ℕ) (w h b : ℕ) (z y : Space) (glyphs : List ℕ) (r : Res
         span_room = omega (arith, one_fits.items);
       }
 
+-- ---- the whole screen
+pub zero_whole : of_bits binary64 0 ≡ whole 0
+unfolding of_bits of_int
+zero_whole = refl
+
 -- ---- the draft of what stands in scratch
+-- the words from box f up to k further on
+pub new_part : (f k : ℕ) (xs : List Float) → take (4 * (f + k) - 4 * f) (drop (4 * f) xs) ≡ take (4 * k) (drop (4 * f) xs)
+new_part f k xs = let e : 4 * (f + k) - 4 * f ≡ 4 * k = omega arith in ap (λ (m : ℕ). take m (drop (4 * f) xs)) e
+
 module _ (w h b : ℕ) (o : Outcome) (z : Space) (glyphs : List ℕ) (before rs : List Float) (is : List ℕ) (ibs : List Float) (c : Changed) (g : Stand w h b o z glyphs before rs is ibs c) (part : List Float) (the_part : part ≡ take (4 * c.commands) (drop (4 * c.first) ibs)) where
   behind : 4 * c.commands ≤ length (drop (4 * c.first) ibs)
   behind = omega (arith, length-drop (4 * c.first) ibs, g.held)
