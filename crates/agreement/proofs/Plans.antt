@@ -16,7 +16,7 @@ use Rattle.changes.proofs.Values.{diff_dirty_same}
 use Rattle.scheduler.specs.Schedule as Schedule
 use Rattle.strip.specs.declared.Cursor.{Cursor}
 use Rattle.strip.specs.Reading.{commands_of}
-use Rattle.frame.specs.declared.Header.{Header}
+use Rattle.screen.specs.declared.Screen.{Screen}
 use Rattle.frame.specs.Frame.{strips, header_of, first_of, both_of}
 use Rattle.plans.specs.declared.Plan.{Plan}
 use Rattle.plans.specs.Drafts.{Draft, draft, Items, Outcome, drafted, screen_rect, on_first, on_both, on_header, first_outcome, next_outcome}
@@ -38,11 +38,11 @@ drafts_plan z i j d e s r = record {
 
 -- headers of the same sizes, or one refusal
 module _ (z : Lent) (f g : ℕ → ℕ → ℕ → Outcome) (same : (w h b : ℕ) → SamePlan z (f w h b) (g w h b)) where
-  on_header_lem : (x : Result Header Refusal) → SamePlan z (on_header x f) (on_header x g)
+  on_header_lem : (x : Result Screen Refusal) → SamePlan z (on_header x f) (on_header x g)
   on_header_lem (Ok sizes) = same sizes.width sizes.height sizes.band_height
   on_header_lem (Err why) = record { answer = refl; regions = refl; index = refl; rects = place_none Same }
 
-  on_headers : (x y : Result Header Refusal) → x ≡ y → SamePlan z (on_header x f) (on_header y g)
+  on_headers : (x y : Result Screen Refusal) → x ≡ y → SamePlan z (on_header x f) (on_header y g)
   on_headers x y e = subst (λ y. SamePlan z (on_header x f) (on_header y g)) e (on_header_lem x)
 
 -- ---- the two entries

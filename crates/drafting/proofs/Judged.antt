@@ -3,18 +3,18 @@ use Rattle.std.proofs.Common.{Option, Some, None}
 use mathlib.Core.Path.{◌≡◌, refl, sym, ap, ◌∙◌, subst}
 use mathlib.Core.Bool.{Bool, true, false, ◌&&◌}
 use mathlib.Core.List.{List}
-use Prim.Native.Nat.{ℕ, ◌*◌, ◌-◌, ◌≤◌, ◌<◌}
+use Prim.Native.Nat.{ℕ, ◌*◌, ◌/◌, ◌≤◌, ◌<◌}
 use native.Mathlib.Omega.{arith}
 use lib.Dec.{leb}
-use lib.ListN.{length, take, drop, length-drop}
-use lib.Seq.{take_all}
+use lib.ListN.{length, take, drop}
 use lib.Ieee.{Float}
 use borrow.Author.Tests.{le-leb, lt-leb, leb-true, leb-false}
 use Rattle.refusals.specs.Table.{refused}
 use Rattle.refusals.specs.declared.Fault.TheVariants.{NoRoom}
-use Rattle.std.specs.Prelude.{Result, Ok}
+use Rattle.std.specs.Prelude.{Result, Ok, Err, ok_or}
 use Rattle.refusals.specs.declared.Refusal.{Refusal}
 use Rattle.lists.specs.Pick.{pick}
+use Rattle.geometry.specs.declared.Rect.{Rect}
 use Rattle.runtime.specs.declared.FrameWork.{FrameWork}
 use Rattle.runtime.specs.Work.{work_of}
 use Rattle.bands.specs.Bands.{rects_to}
@@ -27,7 +27,7 @@ use Rattle.plans.specs.declared.Plan.{Plan}
 use Rattle.plans.specs.Drafts.{Draft}
 use Rattle.plans.specs.Answers.{draft_fits, planned, accepted}
 use Rattle.drafting.specs.Drafted.{draft_in, rooms, judged, indexed, StandsIf}
-use Rattle.drafting.proofs.Words.{rects_length, rects_words}
+use Rattle.drafting.proofs.Words.{rects_length, rects_words, part_rects}
 
 -- ---- the index
 module _ (ws : List ℕ) (n : ℕ) where
@@ -47,31 +47,26 @@ module _ (ws : List ℕ) (n : ℕ) where
       go true h e = let z : ◌≡◌ {A = ℕ} 0 1 = cc in absurd (omega arith)
       go false h e = leb-false (length ws) n h
 
--- the boxes are a part of the lent space, from some word to its end
-pub part_rest : (xs : List Float) (k : ℕ) → take (length xs - k) (drop k xs) ≡ drop k xs
-part_rest xs k = take_all (length xs - k) (drop k xs) (omega (arith, length-drop k xs))
-
-module _ (room rects commands regions pixels h b k : ℕ) (ibs : List Float) (old new : List ℕ) (r : Option ℕ) (part : List Float) (whole_part : part ≡ drop k ibs) (p : r ≡ answer (index_of part commands h b) (length old)) (q : new ≡ stored (index_of part commands h b) old) where
+module _ (room rects commands regions pixels h b : ℕ) (boxes : List Float) (old : List ℕ) (r : Option ℕ) (p : r ≡ answer (index_of boxes commands h b) (length old)) where
   abbrev ws : List ℕ
-  ws = index_of (drop k ibs) commands h b
+  ws = index_of boxes commands h b
 
-  answered_is : r ≡ answer (index_of (drop k ibs) commands h b) (length old)
-  answered_is = p ∙ ap (λ (l : List Float). answer (index_of l commands h b) (length old)) whole_part
+  pub index_over : (count : ℕ) → r ≡ Some count → room < count → refused NoRoom 0 ≡ indexed (index_of boxes commands h b) room rects commands regions pixels
+  index_over count q l = let e = words_count ws (length old) count (sym q ∙ p) in rw (lt-leb (length ws) room (omega arith))
 
-  held : new ≡ stored (index_of (drop k ibs) commands h b) old
-  held = q ∙ ap (λ (l : List Float). stored (index_of l commands h b) old) whole_part
+  pub index_fits : (count : ℕ) → r ≡ Some count → count ≤ room → (work : FrameWork) → work ≡ work_of commands regions pixels → Ok (planned rects count work) ≡ indexed (index_of boxes commands h b) room rects commands regions pixels
+  index_fits count q l work f = let e = words_count ws (length old) count (sym q ∙ p) in rw (le-leb (length ws) room (omega arith)) (λ i. Ok (planned rects (e i) (f i)))
 
-  abbrev Index : Result Plan Refusal → Type 0
-  Index p = (p ≡ indexed (index_of (drop k ibs) commands h b) room rects commands regions pixels) × (new ≡ stored (index_of (drop k ibs) commands h b) old)
+  pub index_full : r ≡ None → room ≤ length old → refused NoRoom 0 ≡ indexed (index_of boxes commands h b) room rects commands regions pixels
+  index_full q l = let e = words_many ws (length old) (sym q ∙ p) in rw (lt-leb (length ws) room (omega arith))
 
-  pub index_over : (count : ℕ) → r ≡ Some count → room < count → Index (refused NoRoom 0)
-  index_over count q l = let e = words_count ws (length old) count (sym q ∙ answered_is) in (rw (lt-leb (length ws) room (omega arith)), held)
-
-  pub index_fits : (count : ℕ) → r ≡ Some count → count ≤ room → (work : FrameWork) → work ≡ work_of commands regions pixels → Index (Ok (planned rects count work))
-  index_fits count q l work f = let e = words_count ws (length old) count (sym q ∙ answered_is) in (rw (le-leb (length ws) room (omega arith)) (λ i. Ok (planned rects (e i) (f i))), held)
-
-  pub index_full : r ≡ None → room ≤ length old → Index (refused NoRoom 0)
-  index_full q l = let e = words_many ws (length old) (sym q ∙ answered_is) in (rw (lt-leb (length ws) room (omega arith)), held)
+-- what `ok_or` puts in the place of nothing
+pub no_room : {T : Type 0} (o : Option T) (why e : Refusal) → Err why ≡ ok_or o e → o ≡ None → why ≡ e
+no_room {T} o why e h q = ap error (h ∙ ap (λ (x : Option T). ok_or x e) q)
+  where
+    error : Result T Refusal → Refusal
+    error (Ok x) = e
+    error (Err r) = r
 
 -- ---- the draft
 untrue : {P : Type 0} → false ≡ true → P
@@ -100,6 +95,10 @@ module _ (w h b : ℕ) (rs : List Float) (n : ℕ) (ibs : List Float) (first com
   regions_many k = fits_false (and_false (leb (length (rects_to rs n)) R) _ (rw (lt-leb (length (schedule w h b (rects_to rs n))) G k)))
 
   module _ (gs new : List ℕ) where
+    -- the schedule is of the rectangles in front
+    pub of_front : n ≤ R → 4 * R ≤ length rs → (x : Option Totals) → Answers (schedule w h b (rects_to (take (4 * n) rs) (length (take (4 * n) rs) / 4))) gs x new → Answers (schedule w h b (rects_to rs n)) gs x new
+    of_front k l x = subst (λ (r : List Rect). Answers (schedule w h b r) gs x new) (part_rects rs n (omega arith))
+
     pub regions_full : 4 * G ≤ length gs → (x : Option Totals) → Answers (schedule w h b (rects_to rs n)) gs x new → x ≡ None → (xs ws : List ℕ) → Judges (refused NoRoom 0) xs ws
     regions_full k x a q = regions_many (omega (arith, unlisted (schedule w h b (rects_to rs n)) gs new (subst (λ (y : Option Totals). Answers (schedule w h b (rects_to rs n)) gs y new) q a)))
 

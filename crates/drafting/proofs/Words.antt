@@ -1,10 +1,10 @@
 -- Rectangles in lent space and their words: the first n of them, and a list whose words stand in front. Assumes nothing.
 use mathlib.Core.Path.{◌≡◌, refl, sym, ap, ◌∙◌}
 use mathlib.Core.List.{List, [], ◌∷◌, ◌++◌, append_assoc}
-use Prim.Native.Nat.{ℕ, zero, suc, ◌+◌, ◌*◌, ◌≤◌, ◌<◌}
+use Prim.Native.Nat.{ℕ, zero, suc, ◌+◌, ◌*◌, ◌/◌, ◌≤◌, ◌<◌}
 use native.Mathlib.Omega.{arith}
 use lib.ListN.{length, take, get_or, length-append}
-use lib.Seq.{take-suc, get_or-take}
+use lib.Seq.{take-suc, get_or-take, length-take-le}
 use lib.Ieee.{Float, nan}
 use Rattle.geometry.specs.declared.Rect.{Rect}
 use Rattle.rect_words.specs.Words.{rect_at}
@@ -43,6 +43,40 @@ next_four xs i h =
     ∙ append_assoc (take i xs ++ (get_or xs i nan ∷ [])) (get_or xs (i + 1) nan ∷ []) (get_or xs (i + 2) nan ∷ get_or xs (i + 3) nan ∷ [])
     ∙ append_assoc (take i xs) (get_or xs i nan ∷ []) (get_or xs (i + 1) nan ∷ get_or xs (i + 2) nan ∷ get_or xs (i + 3) nan ∷ [])
 
+-- the same of a part that has as many words
+rect_front : (m : ℕ) (xs : List Float) (i : ℕ) → i + 4 ≤ m → rect_at (take m xs) i ≡ rect_at xs i
+rect_front m xs i h =
+    let a = get_or-take m xs i nan (omega arith) in
+    let b = get_or-take m xs (i + 1) nan (omega arith) in
+    let c = get_or-take m xs (i + 2) nan (omega arith) in
+    let e = get_or-take m xs (i + 3) nan (omega arith) in
+    λ j. record { x0 = a j; y0 = b j; x1 = c j; y1 = e j }
+
+rects_front : (m : ℕ) (xs : List Float) (n : ℕ) → 4 * n ≤ m → rects_to (take m xs) n ≡ rects_to xs n
+unfolding rects_to rectIn
+rects_front m xs zero h = refl
+rects_front m xs (suc n) h =
+    let a = rects_front m xs n (omega arith) in
+    let b = rect_front m xs (4 * n) (omega arith) in
+    λ j. a j ++ (b j ∷ [])
+
+boxes_front : (m : ℕ) (xs : List Float) (n : ℕ) → 4 * n ≤ m → boxes_of (take m xs) n ≡ boxes_of xs n
+unfolding boxes_of box_at
+boxes_front m xs zero h = refl
+boxes_front m xs (suc n) h =
+    let a = boxes_front m xs n (omega arith) in
+    let b = rect_front m xs (4 * n + 0) (omega arith) in
+    λ j. a j ++ (b j ∷ [])
+
+pub part_count : (xs : List Float) (n : ℕ) → 4 * n ≤ length xs → length (take (4 * n) xs) / 4 ≡ n
+part_count xs n h = omega (arith, length-take-le (4 * n) xs h)
+
+pub part_rects : (xs : List Float) (n : ℕ) → 4 * n ≤ length xs → rects_to (take (4 * n) xs) (length (take (4 * n) xs) / 4) ≡ rects_to xs n
+part_rects xs n h = ap (rects_to (take (4 * n) xs)) (part_count xs n h) ∙ rects_front (4 * n) xs n (omega arith)
+
+pub part_boxes : (xs : List Float) (n : ℕ) → 4 * n ≤ length xs → boxes_of (take (4 * n) xs) (length (take (4 * n) xs) / 4) ≡ boxes_of xs n
+part_boxes xs n h = ap (boxes_of (take (4 * n) xs)) (part_count xs n h) ∙ boxes_front (4 * n) xs n (omega arith)
+
 -- their words are the first 4 * n of the space
 pub rects_words : (xs : List Float) (n : ℕ) → 4 * n ≤ length xs → take (4 * n) xs ≡ words_of (rects_to xs n)
 unfolding rects_to rectIn
@@ -74,12 +108,4 @@ boxes_same xs (suc n) = let e : 4 * n ≡ 4 * n + 0 = omega arith in λ i. boxes
 
 pub rects_back : (l : List Rect) (xs : List Float) (d : Rect) → take (4 * length l) xs ≡ words_of l → rects_to xs (length l) ≡ l
 unfolding box_at
-rects_back l xs d h = boxes_same xs (length l) ∙ boxes_are xs l d (λ i k. let e : 4 * i + 0 ≡ 4 * i = omega arith in ap (rect_at xs) e ∙ sym (front i k) ∙ ap (λ (ws : List Float). rect_at ws (4 * i)) h ∙ rect_of_words l i d k)
-  where
-    front : (i : ℕ) → i < length l → rect_at (take (4 * length l) xs) (4 * i) ≡ rect_at xs (4 * i)
-    front i k =
-        let a = get_or-take (4 * length l) xs (4 * i) nan (omega arith) in
-        let b = get_or-take (4 * length l) xs (4 * i + 1) nan (omega arith) in
-        let c = get_or-take (4 * length l) xs (4 * i + 2) nan (omega arith) in
-        let e = get_or-take (4 * length l) xs (4 * i + 3) nan (omega arith) in
-        λ j. record { x0 = a j; y0 = b j; x1 = c j; y1 = e j }
+rects_back l xs d h = boxes_same xs (length l) ∙ boxes_are xs l d (λ i k. let e : 4 * i + 0 ≡ 4 * i = omega arith in ap (rect_at xs) e ∙ sym (rect_front (4 * length l) xs (4 * i) (omega arith)) ∙ ap (λ (ws : List Float). rect_at ws (4 * i)) h ∙ rect_of_words l i d k)

@@ -2,7 +2,7 @@
 use Rattle.refusals.specs.declared.Fault.TheVariants.{NoRoom}
 use Rattle.refusals.specs.declared.Refusal.{Refusal}
 use Rattle.refusals.specs.Table.{refused}
-use Rattle.std.specs.Prelude.{◌≡◌, true, List, ℕ, ◌+◌, ◌*◌, ◌≤◌, leb, length, take, drop, Float, Result, Ok}
+use Rattle.std.specs.Prelude.{◌≡◌, true, List, ℕ, ◌*◌, ◌≤◌, leb, length, take, drop, Float, Result, Ok}
 use Rattle.lists.specs.Pick.{pick}
 use Rattle.rows.specs.Rows.{row_count}
 use Rattle.rect_list.specs.Rects as Rects
@@ -48,14 +48,12 @@ pub record Stands (d : Draft) (rs : List Float) (gs ws : List ℕ) : Type 0 wher
 abbrev pub StandsIf : Result Plan Refusal → Draft → List Float → List ℕ → List ℕ → Type 0
 StandsIf r d rs gs ws = accepted r ≡ true → Stands d rs gs ws
 
--- the scratch is long enough for what is said to be lent, and the commands stand in it
-pub record Ready (w h b : ℕ) (rs : List Float) (ibs : List Float) (first commands : ℕ) (work spare spans gs ws : List ℕ) (z : Lent) : Type 0 where
+-- the scratch is long enough for what is said to be lent
+pub record Ready (w h b : ℕ) (rs : List Float) (commands : ℕ) (work spans gs ws : List ℕ) (z : Lent) : Type 0 where
   pub sizes : Schedule.Sizes w h b
   pub few : commands ≤ 4096
-  pub boxes : 4 * (first + commands) ≤ length ibs
   pub rect_room : 4 * z.rects ≤ length rs
   pub work_room : z.rects ≤ length work
-  pub spare_room : z.rects ≤ length spare
   pub span_room : commands ≤ length spans
   pub region_room : 4 * z.regions ≤ length gs
   pub word_room : z.words ≤ length ws

@@ -1,2 +1,4 @@
--- What a reader must believe of a draft in scratch that is made of a whole input: what was lent for it, and what stands there.
+-- What a reader must believe of a draft in scratch that is made of a whole input: what was lent for it, and what stands there (`Scratch`).
+-- `Listing` has what its parts promise one another: nothing there is to be believed.
 pub mod Scratch
+pub mod Listing

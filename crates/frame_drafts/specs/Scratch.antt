@@ -2,7 +2,8 @@
 use Rattle.refusals.specs.declared.Refusal.{Refusal}
 use Rattle.std.specs.Prelude.{ℕ, ◌*◌, ◌/◌, ◌≤◌, min, List, length, Float, Result}
 use Rattle.plans.specs.declared.Plan.{Plan}
-use Rattle.plans.specs.Drafts.{Outcome, turned, drafted, first_outcome, next_outcome}
+use Rattle.plans.specs.Drafts.{Outcome, turned, drafted, on_first, on_both, first_outcome, next_outcome}
+use Rattle.frame.specs.Frame.{first_of, both_of}
 use Rattle.frame_drafts.specs.declared.Entry.{Entry}
 use Rattle.frame_drafts.specs.declared.Entry.TheVariants.{First, Next}
 use Rattle.plans.specs.Space.{Lent}
@@ -20,16 +21,20 @@ lent bs ns is ibs glyphs rects regions words =
       words = words;
     }
 
--- what the bytes come to, for the entry that is called
+-- what the strips come to on a screen of w by h in bands of b, for the entry that is called
+abbrev pub on_strips : Entry → ℕ → ℕ → ℕ → List ℕ → Outcome
+on_strips First w h b s = on_first w h b s (first_of s)
+on_strips Next w h b s = on_both w h b s (both_of s)
+
+-- what the bytes come to
 abbrev pub outcome : Entry → List ℕ → Outcome
 outcome First s = first_outcome s
 outcome Next s = next_outcome s
 
 -- the space for the draft is as long as is said
-pub record Roomy (rs : List Float) (work spare gs ws : List ℕ) (rects regions words : ℕ) : Type 0 where
+pub record Roomy (rs : List Float) (work gs ws : List ℕ) (rects regions words : ℕ) : Type 0 where
   pub rect_room : 4 * rects ≤ length rs
   pub work_room : rects ≤ length work
-  pub spare_room : rects ≤ length spare
   pub region_room : 4 * regions ≤ length gs
   pub word_room : words ≤ length ws
 

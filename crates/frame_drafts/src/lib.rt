@@ -2,16 +2,18 @@
 // its index are worked out.
 #![tactic(auto)]
 
-ghost use Rattle.std.specs.Prelude.{◌≡◌, min};
+ghost use Rattle.std.specs.Prelude.{◌≡◌, ℕ, min};
+ghost use Rattle.recording.specs.Recorded.{space};
 ghost use Rattle.frame.specs.Frame.{first_of, both_of};
-ghost use Rattle.scheduler.specs.Schedule.{Sizes};
-ghost use Rattle.plans.specs.Drafts.{on_first, on_both};
+ghost use Rattle.plans.specs.Drafts.{screen_rect, on_first, on_both};
 ghost use Rattle.plans.specs.Answers.{items_fit, answer_of};
-ghost use Rattle.frame_drafts.specs.Scratch.{lent, outcome, Roomy, StandsFor};
+ghost use Rattle.frame_drafts.specs.Scratch.{lent, on_strips, outcome, Roomy, StandsFor};
+ghost use Rattle.frame_drafts.specs.Listing.{Lists};
 
 use geometry::Rect;
-use plans::Plan;
+use plans::{Plan, Room};
 use refusals::{Fault, Refusal};
+use screen::Screen;
 
 // Which frame a call plans: a first one, or one after another.
 #[derive(Clone, Copy, Debug, PartialEq, Eq)]
@@ -20,174 +22,152 @@ pub enum Entry {
     Next,
 }
 
-// Whether scratch holds so many commands, glyphs and clips.
-#[tactic(auto, unfolding(plans::specs::Answers::items_fit))]
-fn items_fit(
+// How many items the strips of an input have.
+#[derive(Clone, Copy, Debug, PartialEq, Eq)]
+struct Items {
     commands: u64,
     glyphs: u64,
     clips: u64,
+}
+
+// What a draft is made of: the new strip's commands, from place `first` on, and the first n rectangles of scratch, of which there may be
+// more than it holds.
+#[derive(Clone, Copy, Debug, PartialEq, Eq)]
+struct Changed {
+    first: usize,
+    commands: usize,
+    n: usize,
+}
+
+// Whether scratch holds so many items.
+#[tactic(auto, unfolding(plans::specs::Answers::items_fit))]
+fn items_fit(
+    count: Items,
     boxes: &[f64],
     below: &[u64],
     items: &[u64],
     item_boxes: &[f64],
     glyph_items: &[u64],
 ) -> bool
-    ensures { result ≡ items_fit (lent boxes.now below.now items.now item_boxes.now glyph_items.now 0 0 0) (record { commands = commands; glyphs = glyphs; clips = clips }) }
+    ensures { result ≡ items_fit (lent boxes.now below.now items.now item_boxes.now glyph_items.now 0 0 0) (record { commands = count.commands; glyphs = count.glyphs; clips = count.clips }) }
 {
     let command_room = (items.len() / 2).min(item_boxes.len() / 4) as u64;
     let glyph_room = glyph_items.len() as u64;
     let clip_room = (boxes.len() / 8).min(below.len()) as u64;
-    commands <= command_room && glyphs <= glyph_room && clips <= clip_room
+    count.commands <= command_room && count.glyphs <= glyph_room && count.clips <= clip_room
 }
 
-// The draft of a first frame, whose one rectangle is the whole screen.
-fn draft_first(
-    s: &[u8],
-    width: u32,
-    height: u32,
-    band_height: u32,
-    rect_room: usize,
-    region_room: usize,
-    word_room: usize,
-    boxes: &mut [f64],
-    below: &mut [u64],
-    items: &mut [u64],
-    item_boxes: &mut [f64],
-    glyph_items: &[u64],
-    rects: &mut [f64],
-    work: &mut [u64],
-    spare: &mut [u64],
-    regions: &mut [u32],
-    words: &mut [u32],
-) -> Result<Plan, Refusal>
-    requires { Sizes width height band_height × Roomy rects.old work.old spare.old regions.old words.old rect_room region_room word_room }
-    ensures answer { result ≡ answer_of (lent boxes.old below.old items.old item_boxes.old glyph_items.now rect_room region_room word_room) (on_first width height band_height s.now (first_of s.now)) }
-    ensures stands { StandsFor result (on_first width height band_height s.now (first_of s.now)) rects.new regions.new words.new }
+fn screen_rect(screen: Screen) -> Rect
+    ensures { result ≡ screen_rect screen.width screen.height }
 {
-    let new = recording::record_first(s, boxes, below, items, item_boxes)?;
-    let commands = new.commands;
-    let glyphs = new.glyphs;
-    let clips = new.clips;
-    if !items_fit(
-        commands,
-        glyphs,
-        clips,
-        boxes,
-        below,
-        items,
-        item_boxes,
-        glyph_items,
-    ) {
-        return Err(Fault::NoRoom.at(0));
-    }
-    let screen = Rect {
+    Rect {
         x0: 0.0,
         y0: 0.0,
-        x1: std::num::nearest_u64_to_f64(width as u64),
-        y1: std::num::nearest_u64_to_f64(height as u64),
-    };
-    let n = rect_list::append(rects, 0, screen);
-    // The items are not read again, so that their space can hold the rows of the commands.
-    drafting::draft(
-        width,
-        height,
-        band_height,
-        item_boxes,
-        0,
-        commands as usize,
-        rects,
-        n,
-        rect_room,
-        region_room,
-        word_room,
-        work,
-        spare,
-        items,
-        regions,
-        words,
-    )
+        x1: f64::from(screen.width),
+        y1: f64::from(screen.height),
+    }
 }
 
-// The draft of a frame after another: what changed between the two strips.
-fn draft_next(
+// A first frame: all its commands are new, and its one rectangle is the whole screen.
+fn list_first(
     s: &[u8],
-    width: u32,
-    height: u32,
-    band_height: u32,
-    rect_room: usize,
-    region_room: usize,
-    word_room: usize,
+    screen: Screen,
     boxes: &mut [f64],
     below: &mut [u64],
     items: &mut [u64],
     item_boxes: &mut [f64],
     glyph_items: &[u64],
     rects: &mut [f64],
-    work: &mut [u64],
-    spare: &mut [u64],
-    regions: &mut [u32],
-    words: &mut [u32],
-) -> Result<Plan, Refusal>
-    requires { Sizes width height band_height × Roomy rects.old work.old spare.old regions.old words.old rect_room region_room word_room }
-    ensures answer { result ≡ answer_of (lent boxes.old below.old items.old item_boxes.old glyph_items.now rect_room region_room word_room) (on_both width height band_height s.now (both_of s.now)) }
-    ensures stands { StandsFor result (on_both width height band_height s.now (both_of s.now)) rects.new regions.new words.new }
+) -> Result<Changed, Refusal>
+    ensures { Lists screen.width screen.height screen.band_height (on_first screen.width screen.height screen.band_height s.now (first_of s.now)) (space boxes.old below.old items.old item_boxes.old) glyph_items.now rects.old rects.new items.new item_boxes.new result }
 {
-    let both = recording::record_both(s, boxes, below, items, item_boxes)?;
-    let old_commands = both.old.commands;
-    let new_commands = both.new.commands;
-    let commands = old_commands + new_commands;
-    let glyphs = both.old.glyphs + both.new.glyphs;
-    let clips = both.old.clips + both.new.clips;
-    if !items_fit(
-        commands,
-        glyphs,
-        clips,
-        boxes,
-        below,
-        items,
-        item_boxes,
-        glyph_items,
-    ) {
+    let new = recording::record_first(s, boxes, below, items, item_boxes)?;
+    let count = Items {
+        commands: new.commands,
+        glyphs: new.glyphs,
+        clips: new.clips,
+    };
+    if !items_fit(count, boxes, below, items, item_boxes, glyph_items) {
         return Err(Fault::NoRoom.at(0));
     }
-    let changed = runtime::diff_dirty(
-        s,
-        boxes,
-        below,
-        items,
-        item_boxes,
-        old_commands as usize,
-        new_commands as usize,
-        rects,
-    );
-    // The comparison was the last to read the items: their space can hold the rows of the commands.
-    drafting::draft(
-        width,
-        height,
-        band_height,
-        item_boxes,
-        old_commands as usize,
-        new_commands as usize,
-        rects,
-        changed,
-        rect_room,
-        region_room,
-        word_room,
-        work,
-        spare,
-        items,
-        regions,
-        words,
-    )
+    let n = rect_list::append(rects, 0, screen_rect(screen));
+    Ok(Changed {
+        first: 0,
+        commands: new.commands as usize,
+        n,
+    })
 }
 
-// Header and strips: one strip of a first frame, else the last accepted one and the new one.
+// A frame after another: the new strip's commands stand behind the old one's, and the rectangles are what changed between the two.
+fn list_next(
+    s: &[u8],
+    boxes: &mut [f64],
+    below: &mut [u64],
+    items: &mut [u64],
+    item_boxes: &mut [f64],
+    glyph_items: &[u64],
+    rects: &mut [f64],
+) -> Result<Changed, Refusal>
+    ensures { (w h b : ℕ) → Lists w h b (on_both w h b s.now (both_of s.now)) (space boxes.old below.old items.old item_boxes.old) glyph_items.now rects.old rects.new items.new item_boxes.new result }
+{
+    let both = recording::record_both(s, boxes, below, items, item_boxes)?;
+    let old = both.old;
+    let new = both.new;
+    let count = Items {
+        commands: old.commands + new.commands,
+        glyphs: old.glyphs + new.glyphs,
+        clips: old.clips + new.clips,
+    };
+    if !items_fit(count, boxes, below, items, item_boxes, glyph_items) {
+        return Err(Fault::NoRoom.at(0));
+    }
+    let first = old.commands as usize;
+    let commands = new.commands as usize;
+    let changed = runtime::diff_dirty(
+        s, boxes, below, items, item_boxes, first, commands, rects,
+    );
+    Ok(Changed {
+        first,
+        commands,
+        n: changed,
+    })
+}
+
+// One strip of a first frame, else the last accepted one and the new one.
+fn list_frame(
+    entry: Entry,
+    s: &[u8],
+    screen: Screen,
+    boxes: &mut [f64],
+    below: &mut [u64],
+    items: &mut [u64],
+    item_boxes: &mut [f64],
+    glyph_items: &[u64],
+    rects: &mut [f64],
+) -> Result<Changed, Refusal>
+    ensures { Lists screen.width screen.height screen.band_height (on_strips entry screen.width screen.height screen.band_height s.now) (space boxes.old below.old items.old item_boxes.old) glyph_items.now rects.old rects.new items.new item_boxes.new result }
+{
+    match entry {
+        Entry::First => list_first(
+            s,
+            screen,
+            boxes,
+            below,
+            items,
+            item_boxes,
+            glyph_items,
+            rects,
+        ),
+        Entry::Next => list_next(s, boxes, below, items, item_boxes, glyph_items, rects),
+    }
+}
+
+// Header and strips, and their draft. The scratch stays slices: a struct of several that are lent anew at once is not covered by the
+// prover.
 pub fn draft_frame(
     entry: Entry,
     s: &[u8],
-    rect_room: usize,
-    region_room: usize,
-    word_room: usize,
+    room: Room,
     boxes: &mut [f64],
     below: &mut [u64],
     items: &mut [u64],
@@ -195,53 +175,29 @@ pub fn draft_frame(
     glyph_items: &[u64],
     rects: &mut [f64],
     work: &mut [u64],
-    spare: &mut [u64],
     regions: &mut [u32],
     words: &mut [u32],
 ) -> Result<Plan, Refusal>
-    requires { Roomy rects.old work.old spare.old regions.old words.old rect_room region_room word_room }
-    ensures answer { result ≡ answer_of (lent boxes.old below.old items.old item_boxes.old glyph_items.now rect_room region_room word_room) (outcome entry s.now) }
+    requires { Roomy rects.old work.old regions.old words.old room.rects room.regions room.words }
+    ensures answer { result ≡ answer_of (lent boxes.old below.old items.old item_boxes.old glyph_items.now room.rects room.regions room.words) (outcome entry s.now) }
     ensures stands { StandsFor result (outcome entry s.now) rects.new regions.new words.new }
 {
-    let sizes = frame::read_header(s)?;
-    match entry {
-        Entry::First => draft_first(
-            s,
-            sizes.width,
-            sizes.height,
-            sizes.band_height,
-            rect_room,
-            region_room,
-            word_room,
-            boxes,
-            below,
-            items,
-            item_boxes,
-            glyph_items,
-            rects,
-            work,
-            spare,
-            regions,
-            words,
-        ),
-        Entry::Next => draft_next(
-            s,
-            sizes.width,
-            sizes.height,
-            sizes.band_height,
-            rect_room,
-            region_room,
-            word_room,
-            boxes,
-            below,
-            items,
-            item_boxes,
-            glyph_items,
-            rects,
-            work,
-            spare,
-            regions,
-            words,
-        ),
-    }
+    let screen = frame::read_header(s)?;
+    let changed = list_frame(
+        entry,
+        s,
+        screen,
+        boxes,
+        below,
+        items,
+        item_boxes,
+        glyph_items,
+        rects,
+    )?;
+    let end = changed.first + changed.commands;
+    let new_boxes = &item_boxes[4 * changed.first..4 * end];
+    // The comparison was the last to read the items: their space can hold the rows of the commands.
+    drafting::draft(
+        screen, room, new_boxes, rects, changed.n, work, items, regions, words,
+    )
 }

@@ -12,6 +12,7 @@ use plans::Plan;
 use printing::{Numbers, Totals};
 use refusals::Refusal;
 use runtime::FrameWork;
+use screen::Screen;
 use std::io::Write;
 use std::{fmt, io};
 use strip::Cursor;
@@ -72,11 +73,11 @@ fn items_of(entry: Entry, input: &[u8]) -> Option<Items> {
 
 // How many starts the index of an input has: one a row, and the end of the last. Nothing without a header.
 fn start_count(input: &[u8]) -> Option<usize> {
-    let sizes = frame::read_header(input).ok()?;
-    if sizes.band_height == 0 {
+    let screen = frame::read_header(input).ok()?;
+    if screen.band_height == 0 {
         return Some(0);
     }
-    Some(sizes.height.div_ceil(sizes.band_height) as usize + 1)
+    Some(screen.band_count() as usize + 1)
 }
 
 fn write_rects(out: &mut impl Write, rects: &[f64]) -> io::Result<()> {
@@ -173,17 +174,15 @@ pub fn write_answer<W: Write>(
 // The answer of `candidates`.
 pub fn write_candidates<W: Write>(
     out: &mut W,
-    width: u32,
-    height: u32,
-    band_height: u32,
+    screen: Screen,
     y: u32,
     words: &[u32],
 ) -> io::Result<()>
-    ensures { OnOk result (Appends (W.contents out.old) (W.contents out.new) (row_line (find width height band_height y words.now) words.now)) }
+    ensures { OnOk result (Appends (W.contents out.old) (W.contents out.new) (row_line (find screen.width screen.height screen.band_height y words.now) words.now)) }
 {
-    if let Err(why) = candidates::find(width, height, band_height, y, words) {
+    if let Err(why) = candidates::find(screen, y, words) {
         return writeln!(out, "{why}");
     }
-    let row = candidates::candidates(width, height, band_height, y, words);
+    let row = candidates::candidates(screen, y, words);
     writeln!(out, "draw{}", Numbers(row))
 }

@@ -24,7 +24,8 @@ use Rattle.scheduler.specs.Schedule.{Sizes, schedule}
 use Rattle.changes.specs.Changes.{diff_dirty}
 use Rattle.strip.specs.declared.Cursor.{Cursor}
 use Rattle.strip.specs.Reading.{read_strip, commands_of}
-use Rattle.frame.specs.Frame.{size_fits, header_of, ended, with_old, then_new, then_end, first_of, both_of}
+use Rattle.screen.specs.Sizes.{size_fits}
+use Rattle.frame.specs.Frame.{header_of, ended, with_old, then_new, then_end, first_of, both_of}
 use Rattle.frame.proofs.Checks.{both_next}
 use Rattle.plans.specs.declared.Plan.{Plan}
 use Rattle.plans.specs.Drafts.{Outcome, turned, drafted, on_first, on_both, on_header, first_outcome, next_outcome}

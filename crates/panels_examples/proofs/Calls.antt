@@ -14,7 +14,8 @@ use Rattle.equality.specs.Drawings.{same_fill, same_run, run_alike, same_drawing
 use Rattle.floats.specs.Next.{next_down}
 use Rattle.floats.specs.Order.{larger, smaller}
 use Rattle.floats.specs.Whole.{whole, floor, ceil}
-use Rattle.frame.specs.Frame.{size_fits, header_of, ended, both_of, first_of}
+use Rattle.screen.specs.Sizes.{size_fits}
+use Rattle.frame.specs.Frame.{header_of, ended, both_of, first_of}
 use Rattle.geometry.specs.Boxes.{positive_area, same_edges}
 use Rattle.index_words.specs.Index.{stands_in, places, row_list, entries_to, start_of, starts_to, layout, index_words}
 use Rattle.little_endian.specs.Words.{u16_at, u32_at, u64_at, finite_or}

@@ -5,7 +5,6 @@
 ghost use Rattle.std.specs.Prelude.{◌*◌, ◌≤◌, vec_len};
 
 use entry_calls::{Limits, Space};
-use frame::Header;
 use plans::Plan;
 use printing::{Numbers, Totals};
 use refusals::Fault;
@@ -37,18 +36,13 @@ fn write_plan(
     words: &[u32],
     pixels: u64,
 ) -> io::Result<()> {
-    let Ok(sizes) = frame::read_header(input) else {
+    let Ok(screen) = frame::read_header(input) else {
         return Ok(());
     };
-    let Header {
-        width,
-        height,
-        band_height,
-    } = sizes;
     writeln!(out, "dirty {rects}")?;
     let (regions, _) = regions.as_chunks::<4>();
     for [x, y, wide, high] in regions {
-        let row = candidates::candidates(width, height, band_height, *y, words);
+        let row = candidates::candidates(screen, *y, words);
         writeln!(out, "region {x} {y} {wide} {high} draw{}", Numbers(row))?;
     }
     let regions = regions.len() as u64;

@@ -10,7 +10,7 @@ ghost use Rattle.frame_drafts.specs.Scratch.{outcome};
 ghost use Rattle.planner.specs.Calls.{slices, rect_count, region_count, word_count, Copies, Zeros, ZeroFloats};
 
 use frame_drafts::Entry;
-use plans::Plan;
+use plans::{Plan, Room};
 use refusals::Refusal;
 
 // How many rectangles are lent, in the output and in scratch, with a working region each.
@@ -104,15 +104,15 @@ fn plan(
     ensures index { words.new ≡ Answers.published result (Answers.index_words (outcome entry input.now)) words.old }
     ensures scratch { (ZeroFloats boxes.old boxes.new) × (Zeros below.old below.new) × (Zeros items.old items.new) × (ZeroFloats item_boxes.old item_boxes.new) × (Zeros glyph_items.old glyph_items.new) × (ZeroFloats draft_rects.old draft_rects.new) × (Zeros work.old work.new) × (Zeros spare.old spare.new) × (Zeros draft_regions.old draft_regions.new) × (Zeros draft_words.old draft_words.new) }
 {
-    let rect_room = rect_room(rects, draft_rects, work, spare);
-    let region_room = (regions.len() / 4).min(draft_regions.len() / 4);
-    let word_room = words.len().min(draft_words.len());
+    let room = Room {
+        rects: rect_room(rects, draft_rects, work, spare),
+        regions: (regions.len() / 4).min(draft_regions.len() / 4),
+        words: words.len().min(draft_words.len()),
+    };
     let plan = frame_drafts::draft_frame(
         entry,
         input,
-        rect_room,
-        region_room,
-        word_room,
+        room,
         boxes,
         below,
         items,
@@ -120,7 +120,6 @@ fn plan(
         glyph_items,
         draft_rects,
         work,
-        spare,
         draft_regions,
         draft_words,
     );

@@ -10,7 +10,7 @@ use Rattle.scheduler.specs.Schedule.{schedule}
 use Rattle.index_words.specs.Index.{index_words}
 use Rattle.changes.specs.Changes.{diff_dirty}
 use Rattle.strip.specs.Reading.{commands_of}
-use Rattle.frame.specs.declared.Header.{Header}
+use Rattle.screen.specs.declared.Screen.{Screen}
 use Rattle.frame.specs.declared.Strips.{Strips}
 use Rattle.strip.specs.declared.Cursor.{Cursor}
 use Rattle.frame.specs.Frame.{header_of, first_of, both_of}
@@ -59,7 +59,7 @@ on_both w h b s (Ok both) =
 on_both w h b s (Err why) = turned why
 
 -- 1 and 2 of the header have position 0
-abbrev pub on_header : Result Header Refusal → (ℕ → ℕ → ℕ → Outcome) → Outcome
+abbrev pub on_header : Result Screen Refusal → (ℕ → ℕ → ℕ → Outcome) → Outcome
 on_header (Ok sizes) k = k sizes.width sizes.height sizes.band_height
 on_header (Err why) k = turned why
 

@@ -5,6 +5,7 @@
 
 use entry_calls::{Entry, Limits, Space};
 use little_endian::u32_at;
+use screen::Screen;
 use std::alloc::Global;
 use std::io;
 use std::io::{BufWriter, Read, Write};
@@ -103,14 +104,12 @@ fn answer_candidates(out: &mut impl Write, alloc: Global, call: &[u8]) -> io::Re
         .take(MOST.index_words as usize)
         .map(|word| u32_at(word, 0))
         .collect::<Vec<u32>>(alloc)?;
-    full_form::write_candidates(
-        out,
-        u32_at(numbers, 0),
-        u32_at(numbers, 4),
-        u32_at(numbers, 8),
-        u32_at(numbers, 12),
-        &words,
-    )
+    let screen = Screen {
+        width: u32_at(numbers, 0),
+        height: u32_at(numbers, 4),
+        band_height: u32_at(numbers, 8),
+    };
+    full_form::write_candidates(out, screen, u32_at(numbers, 12), &words)
 }
 
 // The answer to a call, and the dot behind it.

@@ -24,7 +24,7 @@ use geometry::Rect;
 use glyph_changes::Run;
 
 // The counts that dew keeps of a frame, as far as a plan tells them.
-#[derive(Clone, Copy)]
+#[derive(Clone, Copy, Debug, PartialEq, Eq)]
 pub struct FrameWork {
     pub commands_emitted: u64,
     pub pixels_transferred: u64,

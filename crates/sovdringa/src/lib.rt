@@ -11,6 +11,8 @@ ghost use Rattle.candidates.specs.Table as Table;
 ghost use Rattle.answer_words.specs.Words.{overwritten, answer_words, part_words};
 ghost use Rattle.sovdringa.specs.Calls.{first_plan, next_plan};
 
+use screen::Screen;
+
 // A first frame: header and one strip. Any bytes and any lent space will do.
 #[unsafe(no_mangle)]
 pub extern "C" fn sovdringa_plan_first(
@@ -114,6 +116,11 @@ pub extern "C" fn sovdringa_candidates(
     ensures number { result ≡ Table.refusal width height band_height y words.now }
     ensures row { part.new ≡ overwritten (part_words (Table.find width height band_height y words.now)) part.old }
 {
-    let found = candidates::find(width, height, band_height, y, words);
+    let screen = Screen {
+        width,
+        height,
+        band_height,
+    };
+    let found = candidates::find(screen, y, words);
     answer_words::put_part(found, part)
 }

@@ -1,36 +1,29 @@
-use Rattle.std.specs.Prelude.{Err}
+use Rattle.std.specs.Prelude.{Err, ◌/◌, length}
+use Rattle.std.proofs.lemmas.Result.{err_from_is_err_and}
 use mathlib.Core.Path.{ap, ◌∙◌}
-use Rattle.drafting.proofs.Judged.{rects_over, regions_over, regions_fit, regions_full}
+use Rattle.drafting.proofs.Judged.{no_room, rects_over, of_front, regions_over, regions_fit, regions_full}
 use Rattle.drafting.proofs.draft.Goals as goal
 
-pub returns-then-rect_room-n : goal.returns-then-rect_room-n
-returns-then-rect_room-n c =
-    let all = rects_over c.args.width c.args.height c.args.band_height c.args.rects.now c.args.n c.args.item_boxes.now c.args.first c.args.commands c.args.rect_room c.args.region_room c.args.word_room c.if-rect_room-n.true _ _ in
-    record {
-      answer = ap Err c.at.ensures ∙ all.0;
-      stands = all.1;
-    }
+pub returns-then-room-n-clause-answer : goal.returns-then-room-n-clause-answer
+returns-then-room-n-clause-answer c = ap Err c.at.ensures ∙ (rects_over c.args.screen.width c.args.screen.height c.args.screen.band_height c.args.rects.now c.args.n c.args.boxes.now 0 (length c.args.boxes.now / 4) c.args.room.rects c.args.room.regions c.args.room.words c.if-room-n.true c.args.regions.now c.args.words.now).0
 
-pub returns-then-region_room-totals : goal.returns-then-region_room-totals
-returns-then-region_room-totals c =
-    let all = regions_over c.args.width c.args.height c.args.band_height c.args.rects.now c.args.n c.args.item_boxes.now c.args.first c.args.commands c.args.rect_room c.args.region_room c.args.word_room _ _ _ c.schedule.ensures _ c.in-Some.is c.if-region_room-totals.true _ _ in
-    record {
-      answer = ap Err c.at-then-region_room-totals.ensures ∙ all.0;
-      stands = all.1;
-    }
+pub returns-in_err-totals-clause-answer : goal.returns-in_err-totals-clause-answer
+returns-in_err-totals-clause-answer c =
+    let p = err_from_is_err_and c.from_residual.result c.from_residual.ensures.1 in
+    let given = of_front c.args.screen.width c.args.screen.height c.args.screen.band_height c.args.rects.now c.args.n c.args.boxes.now 0 (length c.args.boxes.now / 4) c.args.room.rects c.args.room.regions c.args.room.words _ _ c.if-room-n.false c.requires.rect_room _ c.schedule.ensures in
+    let why = no_room _ _ _ c.in_err-totals.ensures.value c.in_err-totals.ensures.ok_part ∙ c.at-2.ensures in
+    rw (p.1, p.2) (ap Err why ∙ (regions_full c.args.screen.width c.args.screen.height c.args.screen.band_height c.args.rects.now c.args.n c.args.boxes.now 0 (length c.args.boxes.now / 4) c.args.room.rects c.args.room.regions c.args.room.words _ _ c.requires.region_room _ given c.in_err-totals.ensures.ok_part c.args.regions.now c.args.words.now).0)
 
-pub returns-else-region_room-totals : goal.returns-else-region_room-totals
-returns-else-region_room-totals c =
-    let all = regions_fit c.args.width c.args.height c.args.band_height c.args.rects.now c.args.n c.args.item_boxes.now c.args.first c.args.commands c.args.rect_room c.args.region_room c.args.word_room _ _ _ c.schedule.ensures _ c.in-Some.is c.if-rect_room-n.false c.requires.rect_room c.if-region_room-totals.false _ _ _ c.requires.word_room c.index_draft.ensures.answer c.index_draft.ensures.held in
+pub returns-then-room-totals-clause-answer : goal.returns-then-room-totals-clause-answer
+returns-then-room-totals-clause-answer c =
+    let given = of_front c.args.screen.width c.args.screen.height c.args.screen.band_height c.args.rects.now c.args.n c.args.boxes.now 0 (length c.args.boxes.now / 4) c.args.room.rects c.args.room.regions c.args.room.words _ _ c.if-room-n.false c.requires.rect_room _ c.schedule.ensures in
+    ap Err c.at-then-room-totals.ensures ∙ (regions_over c.args.screen.width c.args.screen.height c.args.screen.band_height c.args.rects.now c.args.n c.args.boxes.now 0 (length c.args.boxes.now / 4) c.args.room.rects c.args.room.regions c.args.room.words _ _ _ given _ c.in_ok-totals.ensures.ok_part c.if-room-totals.true c.args.regions.now c.args.words.now).0
+
+pub returns : goal.returns
+returns c =
+    let given = of_front c.args.screen.width c.args.screen.height c.args.screen.band_height c.args.rects.now c.args.n c.args.boxes.now 0 (length c.args.boxes.now / 4) c.args.room.rects c.args.room.regions c.args.room.words _ _ c.if-room-n.false c.requires.rect_room _ c.schedule.ensures in
+    let all = regions_fit c.args.screen.width c.args.screen.height c.args.screen.band_height c.args.rects.now c.args.n c.args.boxes.now 0 (length c.args.boxes.now / 4) c.args.room.rects c.args.room.regions c.args.room.words _ _ _ given _ c.in_ok-totals.ensures.ok_part c.if-room-n.false c.requires.rect_room c.if-room-totals.false _ _ _ c.requires.word_room c.index_draft.ensures.answer c.index_draft.ensures.held in
     record {
       answer = all.0;
-      stands = all.1;
-    }
-
-pub returns-in-None : goal.returns-in-None
-returns-in-None c =
-    let all = regions_full c.args.width c.args.height c.args.band_height c.args.rects.now c.args.n c.args.item_boxes.now c.args.first c.args.commands c.args.rect_room c.args.region_room c.args.word_room _ _ c.requires.region_room _ c.schedule.ensures c.in-None.is _ _ in
-    record {
-      answer = ap Err c.at-in-None.ensures ∙ all.0;
       stands = all.1;
     }

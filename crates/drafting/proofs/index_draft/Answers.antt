@@ -1,29 +1,17 @@
-use Rattle.std.specs.Prelude.{Err}
+use Rattle.std.specs.Prelude.{Err, ◌/◌, length}
+use Rattle.std.proofs.lemmas.Result.{err_from_is_err_and}
 use mathlib.Core.Path.{ap, ◌∙◌}
-use Rattle.drafting.proofs.Judged.{part_rest, index_over, index_fits, index_full}
-use Prim.Native.Nat.{◌*◌}
+use Rattle.drafting.proofs.Judged.{no_room, index_over, index_fits, index_full}
 use Rattle.drafting.proofs.index_draft.Goals as goal
 
-pub returns-then-room-count : goal.returns-then-room-count
-returns-then-room-count c =
-    let all = index_over c.args.room c.args.rects c.args.commands c.args.regions c.args.pixels c.args.height c.args.band_height (4 * c.args.first) c.args.item_boxes.now _ _ _ _ (part_rest c.args.item_boxes.now (4 * c.args.first)) c.build.ensures.value c.build.ensures.words_after _ c.in-Some.is c.if-room-count.true in
-    record {
-      answer = ap Err c.at.ensures ∙ all.0;
-      held = all.1;
-    }
+pub returns-in_err-count-clause-answer : goal.returns-in_err-count-clause-answer
+returns-in_err-count-clause-answer c =
+    let p = err_from_is_err_and c.from_residual.result c.from_residual.ensures.1 in
+    let why = no_room _ _ _ c.in_err-count.ensures.value c.in_err-count.ensures.ok_part ∙ c.at.ensures in
+    rw (p.1, p.2) (ap Err why ∙ index_full c.args.room c.args.rects (length c.args.boxes.now / 4) c.args.totals.regions c.args.totals.pixels c.args.screen.height c.args.screen.band_height c.args.boxes.now c.args.words.now _ c.build.ensures.value c.in_err-count.ensures.ok_part c.requires.3)
 
-pub returns-else-room-count : goal.returns-else-room-count
-returns-else-room-count c =
-    let all = index_fits c.args.room c.args.rects c.args.commands c.args.regions c.args.pixels c.args.height c.args.band_height (4 * c.args.first) c.args.item_boxes.now _ _ _ _ (part_rest c.args.item_boxes.now (4 * c.args.first)) c.build.ensures.value c.build.ensures.words_after _ c.in-Some.is c.if-room-count.false _ c.of.ensures in
-    record {
-      answer = all.0;
-      held = all.1;
-    }
+pub returns-then-room-count-clause-answer : goal.returns-then-room-count-clause-answer
+returns-then-room-count-clause-answer c = ap Err c.at-then-room-count.ensures ∙ index_over c.args.room c.args.rects (length c.args.boxes.now / 4) c.args.totals.regions c.args.totals.pixels c.args.screen.height c.args.screen.band_height c.args.boxes.now c.args.words.now _ c.build.ensures.value _ c.in_ok-count.ensures.ok_part c.if-room-count.true
 
-pub returns-in-None : goal.returns-in-None
-returns-in-None c =
-    let all = index_full c.args.room c.args.rects c.args.commands c.args.regions c.args.pixels c.args.height c.args.band_height (4 * c.args.first) c.args.item_boxes.now _ _ _ _ (part_rest c.args.item_boxes.now (4 * c.args.first)) c.build.ensures.value c.build.ensures.words_after c.in-None.is c.requires.4 in
-    record {
-      answer = ap Err c.at-in-None.ensures ∙ all.0;
-      held = all.1;
-    }
+pub returns-clause-answer : goal.returns-clause-answer
+returns-clause-answer c = index_fits c.args.room c.args.rects (length c.args.boxes.now / 4) c.args.totals.regions c.args.totals.pixels c.args.screen.height c.args.screen.band_height c.args.boxes.now c.args.words.now _ c.build.ensures.value _ c.in_ok-count.ensures.ok_part c.if-room-count.false _ c.of.ensures

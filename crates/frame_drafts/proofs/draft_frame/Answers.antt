@@ -1,36 +1,31 @@
 use Rattle.std.proofs.lemmas.Result.{err_from_is_err_and}
-use mathlib.Core.Path.{refl}
-use Rattle.frame_drafts.specs.Scratch.{lent}
-use Rattle.frame_drafts.proofs.Inputs.{header_sizes, header_first, header_next, header_none}
+use mathlib.Core.Path.{refl, ap, subst, ◌∙◌}
+use Rattle.plans.specs.Drafts.{Outcome}
+use Rattle.frame_drafts.specs.Scratch.{StandsFor}
+use Rattle.plans.specs.Answers.{answer_of}
+use Rattle.frame_drafts.proofs.Inputs.{header_sizes, header_strips, header_none, new_part, stand_ready, stand_meets}
 use Rattle.frame_drafts.proofs.draft_frame.Goals as goal
 
-pub draft_first-requires : goal.draft_first-requires
-draft_first-requires c = (header_sizes _ _ c.in_ok-sizes.ensures _ refl, c.requires)
-
-pub draft_next-requires : goal.draft_next-requires
-draft_next-requires c = (header_sizes _ _ c.in_ok-sizes.ensures _ refl, c.requires)
-
-pub returns-in-First : goal.returns-in-First
-returns-in-First c =
-    let all = header_first _ _ c.in_ok-sizes.ensures (lent c.args.boxes.now c.args.below.now c.args.items.now c.args.item_boxes.now c.args.glyph_items.now c.args.rect_room c.args.region_room c.args.word_room) _ _ _ _ _ refl c.draft_first.ensures.answer c.draft_first.ensures.stands in
-    rw c.in-First.is record {
-      answer = all.0;
-      stands = all.1;
-    }
-
-pub returns-in-Next : goal.returns-in-Next
-returns-in-Next c =
-    let all = header_next _ _ c.in_ok-sizes.ensures (lent c.args.boxes.now c.args.below.now c.args.items.now c.args.item_boxes.now c.args.glyph_items.now c.args.rect_room c.args.region_room c.args.word_room) _ _ _ _ _ refl c.draft_next.ensures.answer c.draft_next.ensures.stands in
-    rw c.in-Next.is record {
-      answer = all.0;
-      stands = all.1;
-    }
-
-pub returns-in_err-sizes : goal.returns-in_err-sizes
-returns-in_err-sizes c =
+pub returns-in_err-screen-clause-answer : goal.returns-in_err-screen-clause-answer
+returns-in_err-screen-clause-answer c =
     let p = err_from_is_err_and c.from_residual.result c.from_residual.ensures.1 in
-    let all = header_none _ _ c.in_err-sizes.ensures (lent c.args.boxes.now c.args.below.now c.args.items.now c.args.item_boxes.now c.args.glyph_items.now c.args.rect_room c.args.region_room c.args.word_room) _ _ _ _ refl c.args.entry in
-    rw (p.1, p.2) record {
-      answer = all.0;
-      stands = all.1;
+    rw (p.1, p.2) (header_none _ _ c.in_err-screen.ensures _ _ refl c.args.entry)
+
+pub returns-in_err-changed-clause-answer : goal.returns-in_err-changed-clause-answer
+returns-in_err-changed-clause-answer c =
+    let p = err_from_is_err_and c.from_residual-in_err-changed.result c.from_residual-in_err-changed.ensures.1 in
+    let o = header_strips _ _ c.in_ok-screen.ensures _ refl c.args.entry in
+    rw (p.1, p.2) (c.in_err-changed.ensures c.args.room.rects c.args.room.regions c.args.room.words ∙ ap (answer_of _) o)
+
+pub draft-requires : goal.draft-requires
+draft-requires c =
+    stand_ready c.in_ok-screen.screen.width c.in_ok-screen.screen.height c.in_ok-screen.screen.band_height _ _ _ _ _ _ _ _ c.in_ok-changed.ensures _ (new_part c.in_ok-changed.changed.first c.in_ok-changed.changed.commands _) c.args.room.rects c.args.room.regions c.args.room.words (header_sizes _ _ c.in_ok-screen.ensures _ refl) _ _ _ c.requires
+
+pub returns : goal.returns
+returns c =
+    let all = stand_meets c.in_ok-screen.screen.width c.in_ok-screen.screen.height c.in_ok-screen.screen.band_height _ _ _ _ _ _ _ _ c.in_ok-changed.ensures _ (new_part c.in_ok-changed.changed.first c.in_ok-changed.changed.commands _) c.args.room.rects c.args.room.regions c.args.room.words c.requires.rect_room _ _ _ c.draft.ensures.answer c.draft.ensures.stands in
+    let o = header_strips _ _ c.in_ok-screen.ensures _ refl c.args.entry in
+    record {
+      answer = all.0 ∙ ap (answer_of _) o;
+      stands = subst (λ (x : Outcome). StandsFor c.draft.result x c.list_frame.new.rects c.draft.new.regions c.draft.new.words) o all.1;
     }

@@ -1,0 +1,33 @@
+-- What a draft is made of, once the strips are read and their items fit. Nothing here is to be believed: it is what the parts of
+-- `draft_frame` promise one another.
+use Rattle.std.specs.Prelude.{◌≡◌, true, ℕ, ◌+◌, ◌*◌, ◌≤◌, List, map, length, drop, Float, Result, Ok, Err}
+use Rattle.refusals.specs.declared.Refusal.{Refusal}
+use Rattle.geometry.specs.declared.Rect.{Rect}
+use Rattle.commands.specs.Bounds.{Command, bounds}
+use Rattle.rect_list.specs.Rects.{Listed}
+use Rattle.recording.specs.Recorded.{Space}
+use Rattle.band_index.specs.Boxes.{boxes_of}
+use Rattle.plans.specs.declared.Plan.{Plan}
+use Rattle.plans.specs.Drafts.{Items, Outcome, draft, drafted}
+use Rattle.plans.specs.Answers.{items_fit, answer_of}
+use Rattle.frame_drafts.specs.declared.Changed.{Changed}
+use Rattle.frame_drafts.specs.Scratch.{lent}
+
+-- the draft is that of rectangles and commands that are in scratch, and the items fit in the scratch z that was lent
+pub record Stand (w h b : ℕ) (o : Outcome) (z : Space) (glyphs : List ℕ) (before rs : List Float) (is : List ℕ) (ibs : List Float) (c : Changed) : Type 0 where
+  pub items : Items
+  pub rects : List Rect
+  pub commands : List Command
+  pub is_draft : o ≡ drafted items (draft w h b rects commands)
+  pub fit : items_fit (lent z.boxes z.below z.items z.item_boxes glyphs 0 0 0) items ≡ true
+  pub listed : Listed before rects rs c.n
+  pub boxes : boxes_of (drop (4 * c.first) ibs) c.commands ≡ map bounds commands
+  pub count : c.commands ≡ length commands
+  pub few : c.commands ≤ 4096
+  pub held : 4 * (c.first + c.commands) ≤ length ibs
+  pub span_room : c.commands ≤ length is
+
+-- or the call is refused, whatever is lent for its plan
+abbrev pub Lists : ℕ → ℕ → ℕ → Outcome → Space → List ℕ → List Float → List Float → List ℕ → List Float → Result Changed Refusal → Type 0
+Lists w h b o z glyphs before rs is ibs (Ok c) = Stand w h b o z glyphs before rs is ibs c
+Lists w h b o z glyphs before rs is ibs (Err why) = (R G W : ℕ) → Err why ≡ answer_of (lent z.boxes z.below z.items z.item_boxes glyphs R G W) o
