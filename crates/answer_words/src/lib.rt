@@ -11,14 +11,12 @@ use plans::Plan;
 use refusals::Refusal;
 
 // Writes as many of the words as fit to the front of `out`, and leaves the rest of it as it is.
+#[tactic(auto, using(crate::proofs::Overwritten::as_many))]
 fn overwrite(words: &[u64], out: &mut [u64])
     ensures { out.new ≡ overwritten words.now out.old }
 {
-    if words.len() <= out.len() {
-        lists::copy_front(words, words.len(), out);
-    } else {
-        lists::copy_front(words, out.len(), out);
-    }
+    let n = words.len().min(out.len());
+    lists::copy_front(words, n, out);
 }
 
 // Writes a plan's seven words, and hands back its number.
@@ -26,7 +24,7 @@ pub fn put_plan(plan: Result<Plan, Refusal>, answer: &mut [u64]) -> u32
     ensures number { result ≡ Answers.number_of plan }
     ensures words { answer.new ≡ overwritten (answer_words plan) answer.old }
 {
-    match plan {
+    let (number, words) = match plan {
         Ok(accepted) => {
             let words = [
                 0,
@@ -37,16 +35,15 @@ pub fn put_plan(plan: Result<Plan, Refusal>, answer: &mut [u64]) -> u32
                 accepted.work.pixels_transferred,
                 accepted.work.commands_emitted,
             ];
-            overwrite(&words, answer);
-            0
+            (0, words)
         }
         Err(why) => {
             let number = why.fault.number();
-            let words = [number as u64, why.position as u64, 0, 0, 0, 0, 0];
-            overwrite(&words, answer);
-            number
+            (number, [number as u64, why.position as u64, 0, 0, 0, 0, 0])
         }
-    }
+    };
+    overwrite(&words, answer);
+    number
 }
 
 // Writes where a row's entries begin and end, and hands back the number.
@@ -54,16 +51,10 @@ pub fn put_part(found: Result<Part, Refusal>, part: &mut [u64]) -> u32
     ensures number { result ≡ Table.number_of found }
     ensures words { part.new ≡ overwritten (part_words found) part.old }
 {
-    match found {
-        Ok(row) => {
-            let words = [row.start as u64, row.end as u64];
-            overwrite(&words, part);
-            0
-        }
-        Err(why) => {
-            let words = [0, 0];
-            overwrite(&words, part);
-            why.fault.number()
-        }
-    }
+    let (number, words) = match found {
+        Ok(row) => (0, [row.start as u64, row.end as u64]),
+        Err(why) => (why.fault.number(), [0, 0]),
+    };
+    overwrite(&words, part);
+    number
 }

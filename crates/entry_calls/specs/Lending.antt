@@ -1,5 +1,5 @@
 -- Limits as lent space, space as the slices of a call, and what an entry makes of its bytes.
-use Rattle.std.specs.Prelude.{List, ℕ, min}
+use Rattle.std.specs.Prelude.{min}
 use Rattle.plans.specs.Space.{Lent, Slices}
 use Rattle.entry_calls.specs.declared.Limits.{Limits}
 use Rattle.entry_calls.specs.declared.Space.{Space}

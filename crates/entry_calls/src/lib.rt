@@ -1,20 +1,19 @@
-// Calls of the planner's two entries with space of their own: `Space` holds the thirteen slices that an entry is lent.
+// Calls of the planner with space of their own: `Space` holds the thirteen slices that a call is lent.
 #![tactic(auto)]
 
 ghost use Rattle.std.specs.Prelude.{◌≡◌, IfOk};
 ghost use Rattle.plans.specs.Answers.{answer_of, index_words, published, rect_words, region_words};
-ghost use Rattle.plans.specs.Drafts.{first_outcome, next_outcome};
 ghost use Rattle.plans.specs.Space.{lent_of};
 ghost use Rattle.entry_calls.specs.Lending.{at_most, lent, slices_of};
 ghost use Rattle.frame_drafts.specs.Scratch.{outcome};
 
-pub use frame_drafts::Entry;
+pub use planner::Entry;
 use plans::Plan;
 use refusals::Refusal;
 use std::alloc::{AllocError, Global};
 
 // How many items of each kind are lent.
-#[derive(Clone, Copy)]
+#[derive(Clone, Copy, Debug, PartialEq, Eq)]
 pub struct Limits {
     pub commands: u32,
     pub glyphs: u32,
@@ -85,60 +84,7 @@ impl Space {
         })
     }
 
-    // The plan of a first frame, or its refusal. The two entries are called in two places: as one parameter, a function over
-    // fourteen slices would have to say all that an entry promises once more.
-    pub fn plan_first(&mut self, input: &[u8]) -> Result<Plan, Refusal>
-        ensures answer { result ≡ answer_of (lent_of (slices_of self.old)) (first_outcome input.now) }
-        ensures rectangles { self.new.rects.items ≡ published result (rect_words (first_outcome input.now)) self.old.rects.items }
-        ensures scheduled { self.new.regions.items ≡ published result (region_words (first_outcome input.now)) self.old.regions.items }
-        ensures index { self.new.words.items ≡ published result (index_words (first_outcome input.now)) self.old.words.items }
-        ensures space { lent_of (slices_of self.new) ≡ lent_of (slices_of self.old) }
-    {
-        planner::plan_first(
-            input,
-            &mut self.rects,
-            &mut self.regions,
-            &mut self.words,
-            &mut self.boxes,
-            &mut self.below,
-            &mut self.items,
-            &mut self.item_boxes,
-            &mut self.glyph_items,
-            &mut self.draft_rects,
-            &mut self.work,
-            &mut self.spare,
-            &mut self.draft_regions,
-            &mut self.draft_words,
-        )
-    }
-
-    // The plan of a frame after another, or its refusal.
-    pub fn plan_next(&mut self, input: &[u8]) -> Result<Plan, Refusal>
-        ensures answer { result ≡ answer_of (lent_of (slices_of self.old)) (next_outcome input.now) }
-        ensures rectangles { self.new.rects.items ≡ published result (rect_words (next_outcome input.now)) self.old.rects.items }
-        ensures scheduled { self.new.regions.items ≡ published result (region_words (next_outcome input.now)) self.old.regions.items }
-        ensures index { self.new.words.items ≡ published result (index_words (next_outcome input.now)) self.old.words.items }
-        ensures space { lent_of (slices_of self.new) ≡ lent_of (slices_of self.old) }
-    {
-        planner::plan_next(
-            input,
-            &mut self.rects,
-            &mut self.regions,
-            &mut self.words,
-            &mut self.boxes,
-            &mut self.below,
-            &mut self.items,
-            &mut self.item_boxes,
-            &mut self.glyph_items,
-            &mut self.draft_rects,
-            &mut self.work,
-            &mut self.spare,
-            &mut self.draft_regions,
-            &mut self.draft_words,
-        )
-    }
-
-    // What the entry answers.
+    // The plan that the entry makes of its input, or its refusal.
     pub fn plan(&mut self, entry: Entry, input: &[u8]) -> Result<Plan, Refusal>
         ensures answer { result ≡ answer_of (lent_of (slices_of self.old)) (outcome entry input.now) }
         ensures rectangles { self.new.rects.items ≡ published result (rect_words (outcome entry input.now)) self.old.rects.items }
@@ -146,9 +92,22 @@ impl Space {
         ensures index { self.new.words.items ≡ published result (index_words (outcome entry input.now)) self.old.words.items }
         ensures space { lent_of (slices_of self.new) ≡ lent_of (slices_of self.old) }
     {
-        match entry {
-            Entry::First => self.plan_first(input),
-            Entry::Next => self.plan_next(input),
-        }
+        planner::plan(
+            entry,
+            input,
+            &mut self.rects,
+            &mut self.regions,
+            &mut self.words,
+            &mut self.boxes,
+            &mut self.below,
+            &mut self.items,
+            &mut self.item_boxes,
+            &mut self.glyph_items,
+            &mut self.draft_rects,
+            &mut self.work,
+            &mut self.spare,
+            &mut self.draft_regions,
+            &mut self.draft_words,
+        )
     }
 }

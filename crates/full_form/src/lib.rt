@@ -14,6 +14,7 @@ use refusals::Refusal;
 use runtime::FrameWork;
 use screen::Screen;
 use std::io::Write;
+use std::ops::Add;
 use std::{fmt, io};
 use strip::Cursor;
 
@@ -33,15 +34,17 @@ impl fmt::Display for Edge {
 }
 
 // How many commands, glyphs and clips the strips of an input have.
-#[derive(Clone, Copy)]
+#[derive(Clone, Copy, Debug, PartialEq, Eq)]
 struct Items {
     commands: u64,
     glyphs: u64,
     clips: u64,
 }
 
-impl Items {
-    fn and(self, other: Items) -> Items {
+impl Add for Items {
+    type Output = Items;
+
+    fn add(self, other: Items) -> Items {
         Items {
             commands: self.commands.wrapping_add(other.commands),
             glyphs: self.glyphs.wrapping_add(other.glyphs),
@@ -66,7 +69,7 @@ fn items_of(entry: Entry, input: &[u8]) -> Option<Items> {
         Entry::First => frame::first_frame(input).ok().map(Items::from),
         Entry::Next => {
             let both = frame::both_strips(input).ok()?;
-            Some(Items::from(both.old).and(Items::from(both.new)))
+            Some(Items::from(both.old) + Items::from(both.new))
         }
     }
 }
@@ -74,9 +77,6 @@ fn items_of(entry: Entry, input: &[u8]) -> Option<Items> {
 // How many starts the index of an input has: one a row, and the end of the last. Nothing without a header.
 fn start_count(input: &[u8]) -> Option<usize> {
     let screen = frame::read_header(input).ok()?;
-    if screen.band_height == 0 {
-        return Some(0);
-    }
     Some(screen.band_count() as usize + 1)
 }
 

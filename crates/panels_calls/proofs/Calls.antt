@@ -12,12 +12,15 @@ use Rattle.refusals.specs.Table.{refused}
 use Rattle.lists.specs.Pick.{pick}
 use Rattle.scheduler.specs.Schedule.{words_of, regions_to}
 use Rattle.scheduler.proofs.Reading.{regions_back}
+use Rattle.frame_drafts.specs.declared.Entry.{Entry}
+use Rattle.frame_drafts.specs.declared.Entry.TheVariants.{First, Next}
+use Rattle.frame_drafts.specs.Scratch.{outcome}
 use Rattle.plans.specs.declared.Plan.{Plan}
 use Rattle.plans.specs.Drafts.{Draft, Outcome, turned, drafted, first_outcome, next_outcome}
 use Rattle.plans.specs.Space.{Slices, Lent, lent_of}
 use Rattle.plans.specs.Answers.{items_fit, draft_fits, counts, answer_of, accepted, counts_of, region_words, index_words, published}
 use Rattle.panels.specs.Entries.{call_of, regions_of}
-use Rattle.panels_calls.specs.Calls.{Called, CalledFirst, CalledNext}
+use Rattle.panels_calls.specs.Calls.{Called, CalledAs, CalledFirst, CalledNext}
 
 -- an accepted answer is a plan with the counts of its draft
 planned : (t : Bool) (d : Draft) → accepted (pick t (counts d) (refused NoRoom 0)) ≡ true → pick t (counts d) (refused NoRoom 0) ≡ counts d
@@ -45,8 +48,13 @@ module _ (header : List ℕ) (last : Option (List ℕ)) (s : List ℕ) (before a
       }
 
 module _ (input : List ℕ) (before after : Slices) (r : Result Plan Refusal) where
-  pub first_called : r ≡ answer_of (lent_of before) (first_outcome input) → after.regions ≡ published r (region_words (first_outcome input)) before.regions → after.words ≡ published r (index_words (first_outcome input)) before.words → CalledFirst input before after r
-  first_called a g k header s e = called header none s before after r (first_outcome input) (ap first_outcome e) a g k
+  -- of which call `CalledAs` speaks
+  pub as_first : ◌≡◌ {A = Type 0} (CalledAs First input before after r) (CalledFirst input before after r)
+  as_first = refl
 
-  pub next_called : r ≡ answer_of (lent_of before) (next_outcome input) → after.regions ≡ published r (region_words (next_outcome input)) before.regions → after.words ≡ published r (index_words (next_outcome input)) before.words → CalledNext input before after r
-  next_called a g k header old s e = called header (some old) s before after r (next_outcome input) (ap next_outcome e) a g k
+  pub as_next : ◌≡◌ {A = Type 0} (CalledAs Next input before after r) (CalledNext input before after r)
+  as_next = refl
+
+  pub called_as : (entry : Entry) → r ≡ answer_of (lent_of before) (outcome entry input) → after.regions ≡ published r (region_words (outcome entry input)) before.regions → after.words ≡ published r (index_words (outcome entry input)) before.words → CalledAs entry input before after r
+  called_as First a g k header s e = called header none s before after r (first_outcome input) (ap first_outcome e) a g k
+  called_as Next a g k header old s e = called header (some old) s before after r (next_outcome input) (ap next_outcome e) a g k

@@ -3,6 +3,8 @@ use Rattle.refusals.specs.declared.Refusal.{Refusal}
 use Rattle.std.specs.Prelude.{◌≡◌, true, List, ◌++◌, ℕ, Result}
 use Rattle.std.proofs.Math.Option.{Option, none, some}
 use Rattle.scheduler.specs.Schedule.{regions_to}
+use Rattle.frame_drafts.specs.declared.Entry.{Entry}
+use Rattle.frame_drafts.specs.declared.Entry.TheVariants.{First, Next}
 use Rattle.plans.specs.declared.Plan.{Plan}
 use Rattle.plans.specs.Space.{Slices}
 use Rattle.plans.specs.Answers.{accepted, counts_of}
@@ -23,3 +25,8 @@ CalledFirst input before after plan = (header strip : List ℕ) → input ≡ he
 abbrev pub CalledNext : List ℕ → Slices → Slices → Result Plan Refusal → Type 0
 CalledNext input before after plan =
     (header old strip : List ℕ) → input ≡ header ++ (old ++ strip) → Called header (some old) strip before after plan
+
+-- the one or the other, by the entry that is called
+abbrev pub CalledAs : Entry → List ℕ → Slices → Slices → Result Plan Refusal → Type 0
+CalledAs First input before after plan = CalledFirst input before after plan
+CalledAs Next input before after plan = CalledNext input before after plan

@@ -3,13 +3,16 @@
 #![tactic(auto)]
 
 ghost use Rattle.planner.specs.Calls.{slices};
-ghost use Rattle.panels_calls.specs.Calls.{CalledFirst, CalledNext};
+ghost use Rattle.panels_calls.specs.Calls.{CalledAs};
 
+use planner::Entry;
 use plans::Plan;
 use refusals::Refusal;
 
-// A first frame: header and strip. Any bytes and any lent space will do.
-pub fn first_frame(
+// A first frame, header and strip, or a frame after an accepted one: header, last accepted strip and strip. Any bytes and any lent
+// space will do. The slices are parameters as those of `planner::plan` are.
+pub fn frame(
+    entry: Entry,
     input: &[u8],
     rects: &mut [f64],
     regions: &mut [u32],
@@ -25,46 +28,10 @@ pub fn first_frame(
     draft_regions: &mut [u32],
     draft_words: &mut [u32],
 ) -> Result<Plan, Refusal>
-    ensures { CalledFirst input.now (slices rects.old regions.old words.old boxes.old below.old items.old item_boxes.old glyph_items.old draft_rects.old work.old spare.old draft_regions.old draft_words.old) (slices rects.new regions.new words.new boxes.new below.new items.new item_boxes.new glyph_items.new draft_rects.new work.new spare.new draft_regions.new draft_words.new) result }
+    ensures { CalledAs entry input.now (slices rects.old regions.old words.old boxes.old below.old items.old item_boxes.old glyph_items.old draft_rects.old work.old spare.old draft_regions.old draft_words.old) (slices rects.new regions.new words.new boxes.new below.new items.new item_boxes.new glyph_items.new draft_rects.new work.new spare.new draft_regions.new draft_words.new) result }
 {
-    planner::plan_first(
-        input,
-        rects,
-        regions,
-        words,
-        boxes,
-        below,
-        items,
-        item_boxes,
-        glyph_items,
-        draft_rects,
-        work,
-        spare,
-        draft_regions,
-        draft_words,
-    )
-}
-
-// A frame after an accepted one: header, last accepted strip and strip. Any bytes and any lent space will do.
-pub fn next_frame(
-    input: &[u8],
-    rects: &mut [f64],
-    regions: &mut [u32],
-    words: &mut [u32],
-    boxes: &mut [f64],
-    below: &mut [u64],
-    items: &mut [u64],
-    item_boxes: &mut [f64],
-    glyph_items: &mut [u64],
-    draft_rects: &mut [f64],
-    work: &mut [u64],
-    spare: &mut [u64],
-    draft_regions: &mut [u32],
-    draft_words: &mut [u32],
-) -> Result<Plan, Refusal>
-    ensures { CalledNext input.now (slices rects.old regions.old words.old boxes.old below.old items.old item_boxes.old glyph_items.old draft_rects.old work.old spare.old draft_regions.old draft_words.old) (slices rects.new regions.new words.new boxes.new below.new items.new item_boxes.new glyph_items.new draft_rects.new work.new spare.new draft_regions.new draft_words.new) result }
-{
-    planner::plan_next(
+    planner::plan(
+        entry,
         input,
         rects,
         regions,

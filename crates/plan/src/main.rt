@@ -4,7 +4,7 @@
 
 ghost use Rattle.std.specs.Prelude.{◌*◌, ◌≤◌, vec_len};
 
-use entry_calls::{Limits, Space};
+use entry_calls::{Entry, Limits, Space};
 use plans::Plan;
 use printing::{Numbers, Totals};
 use refusals::Fault;
@@ -67,7 +67,7 @@ fn write_planned(out: &mut impl Write, input: &[u8], plan: Plan, space: &Space) 
 }
 
 fn answer(out: &mut impl Write, space: &mut Space, input: &[u8]) -> io::Result<()> {
-    match space.plan_next(input) {
+    match space.plan(Entry::Next, input) {
         Ok(plan) => write_planned(out, input, plan, space),
         Err(why) => writeln!(out, "{why}"),
     }

@@ -1,15 +1,14 @@
-// The planner's two entries: a plan of the first frame, and a plan of what changed since the last one. Everything is worked out
-// in scratch, published only where the whole plan fits, and the scratch is cleared.
+// The planner: a plan of the first frame, or of what changed since the last one. Everything is worked out in scratch, published only
+// where the whole plan fits, and the scratch is cleared.
 #![tactic(auto)]
 
 ghost use Rattle.std.specs.Prelude.{◌≡◌, ◌++◌, ◌/◌, min, length, take, drop};
-ghost use Rattle.plans.specs.Drafts.{first_outcome, next_outcome};
 ghost use Rattle.plans.specs.Space.{lent_of};
 ghost use Rattle.plans.specs.Answers as Answers;
 ghost use Rattle.frame_drafts.specs.Scratch.{outcome};
 ghost use Rattle.planner.specs.Calls.{slices, rect_count, region_count, word_count, Copies, Zeros, ZeroFloats};
 
-use frame_drafts::Entry;
+pub use frame_drafts::Entry;
 use plans::{Plan, Room};
 use refusals::Refusal;
 
@@ -37,15 +36,13 @@ fn publish(
     ensures scheduled { regions.new ≡ take (region_count plan) draft_regions.now ++ drop (region_count plan) regions.old }
     ensures index { words.new ≡ take (word_count plan) draft_words.now ++ drop (word_count plan) words.old }
 {
-    match plan {
-        Ok(accepted) => {
-            let region_count = accepted.work.regions_transferred as usize;
-            lists::copy_front(draft_rects, 4 * accepted.rects, rects);
-            lists::copy_front(draft_regions, 4 * region_count, regions);
-            lists::copy_front(draft_words, accepted.words, words);
-        }
-        Err(_) => {}
-    }
+    let Ok(accepted) = plan else {
+        return;
+    };
+    let region_count = accepted.work.regions_transferred as usize;
+    lists::copy_front(draft_rects, 4 * accepted.rects, rects);
+    lists::copy_front(draft_regions, 4 * region_count, regions);
+    lists::copy_front(draft_words, accepted.words, words);
 }
 
 fn clear_lists(
@@ -80,8 +77,10 @@ fn clear_draft(
     words.fill(0);
 }
 
-// Either entry. Any bytes and any lent space will do.
-fn plan(
+// The plan that the entry makes of its input: of a first frame, header and one strip; of a frame after another, header, the last accepted
+// strip and the new one. Any bytes and any lent space will do. The thirteen lent slices stay parameters: C lends them one by one, and a
+// slice of a Vec that is put in a struct, or lent through one of several `&mut` fields, loses its elements for the prover.
+pub fn plan(
     entry: Entry,
     input: &[u8],
     rects: &mut [f64],
@@ -135,88 +134,4 @@ fn plan(
     clear_lists(boxes, below, items, item_boxes, glyph_items);
     clear_draft(draft_rects, work, spare, draft_regions, draft_words);
     plan
-}
-
-// A first frame: header and one strip. Any bytes and any lent space will do.
-pub fn plan_first(
-    input: &[u8],
-    rects: &mut [f64],
-    regions: &mut [u32],
-    words: &mut [u32],
-    boxes: &mut [f64],
-    below: &mut [u64],
-    items: &mut [u64],
-    item_boxes: &mut [f64],
-    glyph_items: &mut [u64],
-    draft_rects: &mut [f64],
-    work: &mut [u64],
-    spare: &mut [u64],
-    draft_regions: &mut [u32],
-    draft_words: &mut [u32],
-) -> Result<Plan, Refusal>
-    ensures answer { result ≡ Answers.answer_of (lent_of (slices rects.old regions.old words.old boxes.old below.old items.old item_boxes.old glyph_items.old draft_rects.old work.old spare.old draft_regions.old draft_words.old)) (first_outcome input.now) }
-    ensures rectangles { rects.new ≡ Answers.published result (Answers.rect_words (first_outcome input.now)) rects.old }
-    ensures scheduled { regions.new ≡ Answers.published result (Answers.region_words (first_outcome input.now)) regions.old }
-    ensures index { words.new ≡ Answers.published result (Answers.index_words (first_outcome input.now)) words.old }
-    ensures scratch { (ZeroFloats boxes.old boxes.new) × (Zeros below.old below.new) × (Zeros items.old items.new) × (ZeroFloats item_boxes.old item_boxes.new) × (Zeros glyph_items.old glyph_items.new) × (ZeroFloats draft_rects.old draft_rects.new) × (Zeros work.old work.new) × (Zeros spare.old spare.new) × (Zeros draft_regions.old draft_regions.new) × (Zeros draft_words.old draft_words.new) }
-{
-    plan(
-        Entry::First,
-        input,
-        rects,
-        regions,
-        words,
-        boxes,
-        below,
-        items,
-        item_boxes,
-        glyph_items,
-        draft_rects,
-        work,
-        spare,
-        draft_regions,
-        draft_words,
-    )
-}
-
-// A frame after another: header, the last accepted strip and the new one. Any bytes and any lent space will do.
-pub fn plan_next(
-    input: &[u8],
-    rects: &mut [f64],
-    regions: &mut [u32],
-    words: &mut [u32],
-    boxes: &mut [f64],
-    below: &mut [u64],
-    items: &mut [u64],
-    item_boxes: &mut [f64],
-    glyph_items: &mut [u64],
-    draft_rects: &mut [f64],
-    work: &mut [u64],
-    spare: &mut [u64],
-    draft_regions: &mut [u32],
-    draft_words: &mut [u32],
-) -> Result<Plan, Refusal>
-    ensures answer { result ≡ Answers.answer_of (lent_of (slices rects.old regions.old words.old boxes.old below.old items.old item_boxes.old glyph_items.old draft_rects.old work.old spare.old draft_regions.old draft_words.old)) (next_outcome input.now) }
-    ensures rectangles { rects.new ≡ Answers.published result (Answers.rect_words (next_outcome input.now)) rects.old }
-    ensures scheduled { regions.new ≡ Answers.published result (Answers.region_words (next_outcome input.now)) regions.old }
-    ensures index { words.new ≡ Answers.published result (Answers.index_words (next_outcome input.now)) words.old }
-    ensures scratch { (ZeroFloats boxes.old boxes.new) × (Zeros below.old below.new) × (Zeros items.old items.new) × (ZeroFloats item_boxes.old item_boxes.new) × (Zeros glyph_items.old glyph_items.new) × (ZeroFloats draft_rects.old draft_rects.new) × (Zeros work.old work.new) × (Zeros spare.old spare.new) × (Zeros draft_regions.old draft_regions.new) × (Zeros draft_words.old draft_words.new) }
-{
-    plan(
-        Entry::Next,
-        input,
-        rects,
-        regions,
-        words,
-        boxes,
-        below,
-        items,
-        item_boxes,
-        glyph_items,
-        draft_rects,
-        work,
-        spare,
-        draft_regions,
-        draft_words,
-    )
 }

@@ -4,7 +4,7 @@
 use std::fmt;
 
 // Each number after a blank.
-#[derive(Clone, Copy)]
+#[derive(Clone, Copy, Debug, PartialEq, Eq)]
 pub struct Numbers<'a>(pub &'a [u32]);
 
 impl fmt::Display for Numbers<'_> {
@@ -22,7 +22,7 @@ impl fmt::Display for Numbers<'_> {
 }
 
 // A plan's totals.
-#[derive(Clone, Copy)]
+#[derive(Clone, Copy, Debug, PartialEq, Eq)]
 pub struct Totals {
     pub regions: u64,
     pub pixels: u64,

@@ -24,6 +24,7 @@ const MOST: Limits = Limits {
 };
 
 // What a call's first byte asks for.
+#[derive(Clone, Copy, Debug, PartialEq, Eq)]
 enum Function {
     Plan(Entry),
     Candidates,
@@ -39,9 +40,13 @@ impl From<u8> for Function {
     }
 }
 
-// Whether the input ended before the bytes that were to be read.
-fn has_ended(error: &io::Error) -> bool {
-    error.kind() == io::ErrorKind::UnexpectedEof
+// Fills the room from the input, and says whether the input had so many bytes.
+fn read_whole(input: &mut impl Read, room: &mut [u8]) -> io::Result<bool> {
+    match input.read_exact(room) {
+        Ok(()) => Ok(true),
+        Err(error) if error.kind() == io::ErrorKind::UnexpectedEof => Ok(false),
+        Err(error) => Err(error),
+    }
 }
 
 // Reads the next call; nothing where there is none, or none that is whole. A call without a byte ends them too.
@@ -51,12 +56,8 @@ fn read_call<'a>(
     room: &'a mut [u8],
 ) -> io::Result<Option<&'a [u8]>> {
     let mut length = [0u8; 4];
-    if let Err(error) = input.read_exact(&mut length) {
-        return if has_ended(&error) {
-            Ok(None)
-        } else {
-            Err(error)
-        };
+    if !read_whole(input, &mut length)? {
+        return Ok(None);
     }
     let length = u32::from_le_bytes(length) as usize;
     if length == 0 {
@@ -66,12 +67,9 @@ fn read_call<'a>(
         eprintln!(rt; "replay: a call is too long")?;
         return Ok(None);
     };
-    if let Err(error) = input.read_exact(call) {
-        if has_ended(&error) {
-            eprintln!(rt; "replay: the last call is cut off")?;
-            return Ok(None);
-        }
-        return Err(error);
+    if !read_whole(input, call)? {
+        eprintln!(rt; "replay: the last call is cut off")?;
+        return Ok(None);
     }
     Ok(Some(call))
 }

@@ -1,6 +1,6 @@
-// The planner for C and Rust: the two entries of `planner` and `candidates`, exported under C's names. A slice passes as a
-// pointer and a length; an answer is document 01's number, with the rest of it as words in lent space.
-// bindings/c/sovdringa.h declares these functions for C.
+// The planner for C and Rust: `planner`'s two entries and `candidates`, exported under C's names. A slice passes as a pointer and a
+// length; an answer is document 01's number, with the rest of it as words in lent space. bindings/c/sovdringa.h declares these
+// functions for C. The two entries stay two functions, and each slice a parameter, since these are C's names and C lends each alone.
 #![tactic(auto)]
 
 ghost use Rattle.std.specs.Prelude.{◌≡◌};
@@ -11,6 +11,7 @@ ghost use Rattle.candidates.specs.Table as Table;
 ghost use Rattle.answer_words.specs.Words.{overwritten, answer_words, part_words};
 ghost use Rattle.sovdringa.specs.Calls.{first_plan, next_plan};
 
+use planner::Entry;
 use screen::Screen;
 
 // A first frame: header and one strip. Any bytes and any lent space will do.
@@ -39,7 +40,8 @@ pub extern "C" fn sovdringa_plan_first(
     ensures index { words.new ≡ Answers.published (first_plan (slices rects.old regions.old words.old boxes.old below.old items.old item_boxes.old glyph_items.old draft_rects.old work.old spare.old draft_regions.old draft_words.old) input.now) (Answers.index_words (first_outcome input.now)) words.old }
     ensures scratch { (ZeroFloats boxes.old boxes.new) × (Zeros below.old below.new) × (Zeros items.old items.new) × (ZeroFloats item_boxes.old item_boxes.new) × (Zeros glyph_items.old glyph_items.new) × (ZeroFloats draft_rects.old draft_rects.new) × (Zeros work.old work.new) × (Zeros spare.old spare.new) × (Zeros draft_regions.old draft_regions.new) × (Zeros draft_words.old draft_words.new) }
 {
-    let plan = planner::plan_first(
+    let plan = planner::plan(
+        Entry::First,
         input,
         rects,
         regions,
@@ -84,7 +86,8 @@ pub extern "C" fn sovdringa_plan_next(
     ensures index { words.new ≡ Answers.published (next_plan (slices rects.old regions.old words.old boxes.old below.old items.old item_boxes.old glyph_items.old draft_rects.old work.old spare.old draft_regions.old draft_words.old) input.now) (Answers.index_words (next_outcome input.now)) words.old }
     ensures scratch { (ZeroFloats boxes.old boxes.new) × (Zeros below.old below.new) × (Zeros items.old items.new) × (ZeroFloats item_boxes.old item_boxes.new) × (Zeros glyph_items.old glyph_items.new) × (ZeroFloats draft_rects.old draft_rects.new) × (Zeros work.old work.new) × (Zeros spare.old spare.new) × (Zeros draft_regions.old draft_regions.new) × (Zeros draft_words.old draft_words.new) }
 {
-    let plan = planner::plan_next(
+    let plan = planner::plan(
+        Entry::Next,
         input,
         rects,
         regions,
