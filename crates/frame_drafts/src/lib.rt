@@ -11,7 +11,9 @@ ghost use Rattle.frame_drafts.specs.Scratch.{lent, outcome, Roomy, StandsFor};
 
 use geometry::Rect;
 use plans::Plan;
+use rect_list::RectList;
 use refusals::{Fault, Refusal};
+use runtime::ListSpace;
 
 // Which frame a call plans: a first one, or one after another.
 #[derive(Clone, Copy, Debug, PartialEq, Eq)]
@@ -86,7 +88,9 @@ fn draft_first(
         x1: std::num::nearest_u64_to_f64(width as u64),
         y1: std::num::nearest_u64_to_f64(height as u64),
     };
-    let n = rect_list::append(rects, 0, screen);
+    let mut list = RectList::new(rects);
+    list.push(screen);
+    let n = list.count;
     // The items are not read again, so that their space can hold the rows of the commands.
     drafting::draft(
         width,
@@ -150,16 +154,14 @@ fn draft_next(
     ) {
         return Err(Fault::NoRoom.at(0));
     }
-    let changed = runtime::diff_dirty(
-        s,
+    let space = ListSpace {
+        bytes: s,
         boxes,
         below,
         items,
         item_boxes,
-        old_commands as usize,
-        new_commands as usize,
-        rects,
-    );
+    };
+    let changed = space.diff_dirty(old_commands as usize, new_commands as usize, rects);
     // The comparison was the last to read the items: their space can hold the rows of the commands.
     drafting::draft(
         width,

@@ -80,3 +80,8 @@ to_listed {k} {old} {now} {new} {whole} g e a z =
 -- the same of slices by other names
 pub listed_as : {xs xs' ys ys' : List Float} {l : List Rect} {m : ℕ} → Listed xs l ys m → xs ≡ xs' → ys' ≡ ys → Listed xs' l ys' m
 listed_as {xs} {xs'} {ys} {ys'} {l} {m} w e f = subst (λ z. Listed xs' l z m) (sym f) (subst (λ z. Listed z l ys m) e w)
+
+-- what was appended to a list, of the slice that was lent to it
+pub added_lent : {k n : ℕ} {xs zs : List Float} {old new : RectList} {l : List Rect} → AddedTo k old l new → old.words.now ≡ xs → old.count ≡ n → zs ≡ new.words.now → Added k xs n l zs new.count
+added_lent {k} {n} {xs} {zs} {old} {new} {l} a e f g =
+    subst (λ w. Added k xs n l w new.count) (sym g) (subst (λ z. Added k z n l new.words.now new.count) e (subst (λ m. Added k old.words.now m l new.words.now new.count) f a.added))

@@ -2,19 +2,20 @@ use Rattle.std.specs.Prelude.{Err}
 use mathlib.Core.Path.{ap, ◌∙◌}
 use Rattle.std.proofs.lemmas.Result.{err_from_is_err_and}
 use mathlib.Core.Path.{refl}
-use Rattle.std.proofs.Common.{lit≤}
+use Rattle.std.proofs.Common.{rules}
+use Rattle.rect_list.proofs.Turns.{added_lent}
 use Rattle.frame_drafts.proofs.Inputs.{first_ready, first_meets, first_over, first_refused}
 use Rattle.frame_drafts.proofs.draft_first.Goals as goal
 
-pub append-n-requires : goal.append-n-requires
-append-n-requires c = lit≤ tt
-
 pub draft-requires : goal.draft-requires
-draft-requires c = first_ready c.args.s.now c.args.width c.args.height c.args.band_height _ _ c.args.glyph_items.now c.args.rect_room c.args.region_room c.args.word_room _ c.in_ok-new.ensures.answer c.in_ok-new.ensures.lengths c.in_ok-new.ensures.lists _ refl _ c.items_fit.ensures c.if-not-items_fit.false _ _ _ _ _ c.nearest_u64_to_f64.ensures c.nearest_u64_to_f64-2.ensures c.append-n.ensures c.requires.0 _ _ _ _ c.requires.1
+draft-requires c =
+    let named = c.push.ensures.same_place ∙ ap (λ w. w.ghost_name) c.new-list.ensures.0 in
+    first_ready c.args.s.now c.args.width c.args.height c.args.band_height _ _ c.args.glyph_items.now c.args.rect_room c.args.region_room c.args.word_room _ c.in_ok-new.ensures.answer c.in_ok-new.ensures.lengths c.in_ok-new.ensures.lists _ refl _ c.items_fit.ensures c.if-not-items_fit.false _ _ _ _ _ c.nearest_u64_to_f64.ensures c.nearest_u64_to_f64-2.ensures (added_lent c.push.ensures (ap (λ w. w.now) c.new-list.ensures.0) c.new-list.ensures.1 (search (rules, named))) c.requires.0 _ _ _ _ c.requires.1
 
 pub returns : goal.returns
 returns c =
-    let all = first_meets c.args.s.now c.args.width c.args.height c.args.band_height _ _ c.args.glyph_items.now c.args.rect_room c.args.region_room c.args.word_room _ c.in_ok-new.ensures.answer c.in_ok-new.ensures.lengths c.in_ok-new.ensures.lists _ refl _ c.items_fit.ensures c.if-not-items_fit.false _ _ _ _ _ c.nearest_u64_to_f64.ensures c.nearest_u64_to_f64-2.ensures c.append-n.ensures c.requires.1.rect_room _ _ _ c.draft.ensures.answer c.draft.ensures.stands in
+    let named = c.push.ensures.same_place ∙ ap (λ w. w.ghost_name) c.new-list.ensures.0 in
+    let all = first_meets c.args.s.now c.args.width c.args.height c.args.band_height _ _ c.args.glyph_items.now c.args.rect_room c.args.region_room c.args.word_room _ c.in_ok-new.ensures.answer c.in_ok-new.ensures.lengths c.in_ok-new.ensures.lists _ refl _ c.items_fit.ensures c.if-not-items_fit.false _ _ _ _ _ c.nearest_u64_to_f64.ensures c.nearest_u64_to_f64-2.ensures (added_lent c.push.ensures (ap (λ w. w.now) c.new-list.ensures.0) c.new-list.ensures.1 (search (rules, named))) c.requires.1.rect_room _ _ _ c.draft.ensures.answer c.draft.ensures.stands in
     record {
       answer = all.0;
       stands = all.1;
