@@ -12,7 +12,9 @@ ghost use Rattle.frame_drafts.specs.Listing.{Lists};
 
 use geometry::Rect;
 use plans::{Plan, Room};
+use rect_list::RectList;
 use refusals::{Fault, Refusal};
+use runtime::ListSpace;
 use screen::Screen;
 
 // Which frame a call plans: a first one, or one after another.
@@ -90,11 +92,12 @@ fn list_first(
     if !items_fit(count, boxes, below, items, item_boxes, glyph_items) {
         return Err(Fault::NoRoom.at(0));
     }
-    let n = rect_list::append(rects, 0, screen_rect(screen));
+    let mut list = RectList::new(rects);
+    list.push(screen_rect(screen));
     Ok(Changed {
         first: 0,
         commands: new.commands as usize,
-        n,
+        n: list.count,
     })
 }
 
@@ -123,14 +126,15 @@ fn list_next(
     }
     let first = old.commands as usize;
     let commands = new.commands as usize;
-    let changed = runtime::diff_dirty(
-        s, boxes, below, items, item_boxes, first, commands, rects,
-    );
-    Ok(Changed {
-        first,
-        commands,
-        n: changed,
-    })
+    let lists = ListSpace {
+        bytes: s,
+        boxes,
+        below,
+        items,
+        item_boxes,
+    };
+    let n = lists.diff_dirty(first, commands, rects);
+    Ok(Changed { first, commands, n })
 }
 
 // One strip of a first frame, else the last accepted one and the new one.

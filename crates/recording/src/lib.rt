@@ -13,6 +13,8 @@ use refusals::Refusal;
 use strip::{Cursor, Step};
 
 // The strip at an offset, recorded behind so many clips and commands.
+// The four lent slices stay parameters, here and below: tried as fields of a struct, and the proof doesn't close, since a call
+// that lends several `&mut` fields isn't covered.
 fn record_strip(
     s: &[u8],
     at: usize,

@@ -1,5 +1,5 @@
 -- A loop that appends: what is left, appended to what is there, is the whole. Assumes nothing.
-use mathlib.Core.Path.{◌≡◌, refl, sym, ap, ◌∙◌}
+use mathlib.Core.Path.{◌≡◌, refl, sym, ap, subst, ◌∙◌}
 use mathlib.Core.List.{List, [], ◌++◌}
 use Prim.Native.Nat.{ℕ, ◌+◌, ◌≤◌}
 use native.Mathlib.Omega.{arith}
@@ -71,3 +71,17 @@ to_none {k} = record { added = added_none {k = k}; same_place = refl }
 -- the same list by another name, and a larger bound
 pub to_as : {k j : ℕ} {old new : RectList} {a b : List Rect} → a ≡ b → k ≤ j → AddedTo k old a new → AddedTo j old b new
 to_as e h s = record { added = added_as e h s.added; same_place = s.same_place }
+
+-- a list that began with nothing: what stands in its words at the end
+pub to_listed : {k : ℕ} {old now new : RectList} {whole rest done : List Rect} → GoingTo old whole now rest → rest ≡ done → AddedTo k now done new → old.count ≡ 0 → Listed old.words.now whole new.words.now new.count
+to_listed {k} {old} {now} {new} {whole} g e a z =
+    listed _ _ _ _ _ (subst (λ n. Added new.count old.words.now n whole new.words.now new.count) z (going_last {j = new.count} g.going e (omega arith) a.added))
+
+-- the same of slices by other names
+pub listed_as : {xs xs' ys ys' : List Float} {l : List Rect} {m : ℕ} → Listed xs l ys m → xs ≡ xs' → ys' ≡ ys → Listed xs' l ys' m
+listed_as {xs} {xs'} {ys} {ys'} {l} {m} w e f = subst (λ z. Listed xs' l z m) (sym f) (subst (λ z. Listed z l ys m) e w)
+
+-- what was appended to a list, of the slice that was lent to it
+pub added_lent : {k n : ℕ} {xs zs : List Float} {old new : RectList} {l : List Rect} → AddedTo k old l new → old.words.now ≡ xs → old.count ≡ n → zs ≡ new.words.now → Added k xs n l zs new.count
+added_lent {k} {n} {xs} {zs} {old} {new} {l} a e f g =
+    subst (λ w. Added k xs n l w new.count) (sym g) (subst (λ z. Added k z n l new.words.now new.count) e (subst (λ m. Added k old.words.now m l new.words.now new.count) f a.added))

@@ -9,7 +9,7 @@ ghost use Rattle.rect_list.specs.Rects.{AddedTo};
 use geometry::Rect;
 
 // The lent words, and how many boxes were appended: more than are stored, where they found no room.
-#[derive(Debug)]
+#[derive(Debug, Drop)]
 pub struct RectList<'a> {
     pub words: &'a mut [f64],
     pub count: usize,

@@ -2,7 +2,7 @@
 // what changed are appended to a list of their own; nothing else is stored.
 #![tactic(auto)]
 
-ghost use Rattle.std.specs.Prelude.{◌≡◌, true, ◌&&◌, [], ◌∷◌, ◌+◌, ◌*◌, ◌≤◌, ◌<◌, length};
+ghost use Rattle.std.specs.Prelude.{◌≡◌, true, ◌&&◌, [], ◌∷◌, ◌+◌, ◌*◌, ◌^◌, ◌≤◌, ◌<◌, length};
 ghost use Rattle.geometry.specs.Boxes.{union};
 ghost use Rattle.commands.specs.Bounds.{glyph_count};
 ghost use Rattle.operand_equality.specs.Operands.{same_clips};
@@ -13,7 +13,7 @@ ghost use Rattle.display_list.specs.Lists.{offset_at, clip_number_at, box_at};
 ghost use Rattle.strip.specs.Reading.{command_of};
 ghost use Rattle.changes.specs.Changes.{changed_bounds, diff_dirty};
 ghost use Rattle.stored_lists.specs.Stored.{Stored, command_in, commands_in};
-ghost use Rattle.rect_list.specs.Rects.{Added, Listed};
+ghost use Rattle.rect_list.specs.Rects.{AddedTo, Listed};
 ghost use Rattle.glyph_changes.specs.Runs.{most_boxes, windowed, changed_by, glyphs_of};
 ghost use Rattle.runtime.specs.Placed as Placed;
 ghost use Rattle.runtime.specs.Placed.{Both, placed_at, stands_for, Standing, whole_length, Pair, AlikeClips, SameRun, RunPair, boxes_in};
@@ -22,6 +22,7 @@ ghost use Rattle.runtime.specs.Work.{work_of};
 use commands::DrawCommand;
 use geometry::Rect;
 use glyph_changes::Run;
+use rect_list::RectList;
 
 // The counts that dew keeps of a frame, as far as a plan tells them.
 #[derive(Clone, Copy, Debug, PartialEq, Eq)]
@@ -46,7 +47,7 @@ impl FrameWork {
 
 // The lent space of two display lists, one behind the other: the bytes of their strips, their clips, and for each command where its
 // bytes begin, its clip number and its box.
-#[derive(Clone, Copy)]
+#[derive(Clone, Copy, Debug, PartialEq)]
 pub struct ListSpace<'a> {
     pub bytes: &'a [u8],
     pub boxes: &'a [f64],
@@ -119,24 +120,44 @@ fn unchanged(s: &[u8], at: usize, other: usize) -> bool
 }
 
 // Appends what the old box has beside the new one, and then what the new one has beside the old.
-fn rect_symmetric_difference(old: Rect, new: Rect, rects: &mut [f64], n: usize) -> usize
-    requires { n + 8 < 9223372036854775808 }
-    ensures { Added 8 rects.old n (rect_symmetric_difference old new) rects.new result }
+fn rect_symmetric_difference(old: Rect, new: Rect, rects: &mut RectList)
+    requires { rects.old.count + 8 < 2 ^ 63 }
+    ensures { AddedTo 8 rects.old (rect_symmetric_difference old new) rects.new }
 {
-    let gone = differences::rect_difference(old, new);
-    let m = rect_list::append_parts(rects, n, gone);
-    let come = differences::rect_difference(new, old);
-    rect_list::append_parts(rects, m, come)
+    rects.extend_parts(differences::rect_difference(old, new));
+    rects.extend_parts(differences::rect_difference(new, old));
 }
 
 impl ListSpace<'_> {
+    // Where the bytes of a command begin.
+    fn offset_at(self, i: usize) -> usize
+        requires { 2 * i + 2 ≤ length self.items.now }
+        ensures { result ≡ offset_at self.entry.items.now i }
+    {
+        self.items[2 * i] as usize
+    }
+
+    fn clip_number_at(self, i: usize) -> u64
+        requires { 2 * i + 2 ≤ length self.items.now }
+        ensures { result ≡ clip_number_at self.entry.items.now i }
+    {
+        self.items[2 * i + 1]
+    }
+
+    fn box_at(self, i: usize) -> Rect
+        requires { 4 * i + 4 ≤ length self.item_boxes.now }
+        ensures { result ≡ box_at self.entry.item_boxes.now i }
+    {
+        rect_words::rect_at(self.item_boxes, 4 * i)
+    }
+
     // The command at a place of the list.
     #[tactic(auto, unfolding(crate::specs::Placed::placed_at))]
     fn placed_at(self, i: usize) -> PlacedCommand
         requires { (2 * i + 2 ≤ length self.items.now) × (4 * i + 4 ≤ length self.item_boxes.now) × (offset_at self.items.now i ≤ length self.bytes.now) }
         ensures { result ≡ placed_at self.entry.bytes.now self.entry.items.now self.entry.item_boxes.now i }
     {
-        let at = self.items[2 * i] as usize;
+        let at = self.offset_at(i);
         let command = strip_format::command_at(self.bytes, at);
         PlacedCommand {
             command,
@@ -144,9 +165,9 @@ impl ListSpace<'_> {
                 glyphs: at + 103,
                 count: glyph_count(command),
                 transform: command.transform(),
-                clip: self.items[2 * i + 1],
+                clip: self.clip_number_at(i),
             },
-            bounds: rect_words::rect_at(self.item_boxes, 4 * i),
+            bounds: self.box_at(i),
         }
     }
 
@@ -172,170 +193,136 @@ impl ListSpace<'_> {
 
     // Appends the boxes of what changed from a command to another: nothing where they are equal, the difference of
     // the boxes of fills alike, the glyphs of runs alike, and else the union of both boxes.
-    fn changed_placed(
-        self,
-        old: PlacedCommand,
-        new: PlacedCommand,
-        rects: &mut [f64],
-        n: usize,
-    ) -> usize
-        requires { Pair self.bytes.now self.boxes.now self.below.now old new × (n + most_boxes < 9223372036854775808) }
-        ensures { Added most_boxes rects.old n (changed_bounds (stands_for self.entry.bytes.now self.entry.boxes.now self.entry.below.now old) (stands_for self.entry.bytes.now self.entry.boxes.now self.entry.below.now new)) rects.new result }
+    fn changed_placed(self, old: PlacedCommand, new: PlacedCommand, rects: &mut RectList)
+        requires { Pair self.bytes.now self.boxes.now self.below.now old new × (rects.old.count + most_boxes < 2 ^ 63) }
+        ensures { AddedTo most_boxes rects.old (changed_bounds (stands_for self.entry.bytes.now self.entry.boxes.now self.entry.below.now old) (stands_for self.entry.bytes.now self.entry.boxes.now self.entry.below.now new)) rects.new }
     {
         if self.equal(old, new) {
-            return n;
+            return;
         }
         if equality::fills_alike(old.command, new.command) {
-            return rect_symmetric_difference(old.bounds, new.bounds, rects, n);
+            rect_symmetric_difference(old.bounds, new.bounds, rects);
+        } else if self.runs_alike(old, new) {
+            glyph_changes::changed_glyph_bounds(self.bytes, self.boxes, old.run, new.run, rects);
+        } else {
+            rects.push(old.bounds.union(new.bounds));
         }
-        if self.runs_alike(old, new) {
-            return glyph_changes::changed_glyph_bounds(
-                self.bytes, self.boxes, old.run, new.run, rects, n,
-            );
-        }
-        rect_list::append(rects, n, old.bounds.union(new.bounds))
     }
 
     // The same once both are decoded, whatever they are.
-    fn changed_decoded(self, i: usize, j: usize, rects: &mut [f64], n: usize) -> usize
-        requires { Both i j self.bytes.now self.boxes.now self.below.now self.items.now self.item_boxes.now × (n + most_boxes < 9223372036854775808) }
-        ensures { Added most_boxes rects.old n (changed_bounds (command_in self.entry.bytes.now self.entry.boxes.now self.entry.below.now self.entry.items.now i) (command_in self.entry.bytes.now self.entry.boxes.now self.entry.below.now self.entry.items.now j)) rects.new result }
+    fn changed_decoded(self, i: usize, j: usize, rects: &mut RectList)
+        requires { Both i j self.bytes.now self.boxes.now self.below.now self.items.now self.item_boxes.now × (rects.old.count + most_boxes < 2 ^ 63) }
+        ensures { AddedTo most_boxes rects.old (changed_bounds (command_in self.entry.bytes.now self.entry.boxes.now self.entry.below.now self.entry.items.now i) (command_in self.entry.bytes.now self.entry.boxes.now self.entry.below.now self.entry.items.now j)) rects.new }
     {
         let old = self.placed_at(i);
         let new = self.placed_at(j);
-        self.changed_placed(old, new, rects, n)
+        self.changed_placed(old, new, rects);
     }
 
     // Appends the union of the boxes at two places.
-    fn append_union(self, i: usize, j: usize, rects: &mut [f64], n: usize) -> usize
-        requires { (4 * i + 4 ≤ length self.item_boxes.now) × (4 * j + 4 ≤ length self.item_boxes.now) × (n < 9223372036854775808) }
-        ensures { Added 1 rects.old n (union (box_at self.entry.item_boxes.now i) (box_at self.entry.item_boxes.now j) ∷ []) rects.new result }
+    fn append_union(self, i: usize, j: usize, rects: &mut RectList)
+        requires { (4 * i + 4 ≤ length self.item_boxes.now) × (4 * j + 4 ≤ length self.item_boxes.now) × (rects.old.count < 2 ^ 63) }
+        ensures { AddedTo 1 rects.old (union (box_at self.entry.item_boxes.now i) (box_at self.entry.item_boxes.now j) ∷ []) rects.new }
     {
-        let old = rect_words::rect_at(self.item_boxes, 4 * i);
-        let new = rect_words::rect_at(self.item_boxes, 4 * j);
-        rect_list::append(rects, n, old.union(new))
+        rects.push(self.box_at(i).union(self.box_at(j)));
     }
 
     // Appends the boxes of what changed in the glyphs of a RUN that stands at both places: its operands are read once.
-    fn changed_run(self, i: usize, j: usize, rects: &mut [f64], n: usize) -> usize
-        requires { RunPair self.bytes.now self.boxes.now self.items.now i j × (n + most_boxes < 9223372036854775808) }
-        ensures { Added most_boxes rects.old n (changed_by (windowed self.entry.boxes.now (Placed.run_at self.entry.bytes.now self.entry.items.now i)) (windowed self.entry.boxes.now (Placed.run_at self.entry.bytes.now self.entry.items.now j)) (glyphs_of self.entry.bytes.now (Placed.run_at self.entry.bytes.now self.entry.items.now i)) (glyphs_of self.entry.bytes.now (Placed.run_at self.entry.bytes.now self.entry.items.now j))) rects.new result }
+    fn changed_run(self, i: usize, j: usize, rects: &mut RectList)
+        requires { RunPair self.bytes.now self.boxes.now self.items.now i j × (rects.old.count + most_boxes < 2 ^ 63) }
+        ensures { AddedTo most_boxes rects.old (changed_by (windowed self.entry.boxes.now (Placed.run_at self.entry.bytes.now self.entry.items.now i)) (windowed self.entry.boxes.now (Placed.run_at self.entry.bytes.now self.entry.items.now j)) (glyphs_of self.entry.bytes.now (Placed.run_at self.entry.bytes.now self.entry.items.now i)) (glyphs_of self.entry.bytes.now (Placed.run_at self.entry.bytes.now self.entry.items.now j))) rects.new }
     {
-        let at = self.items[2 * i] as usize;
-        let other = self.items[2 * j] as usize;
+        let at = self.offset_at(i);
+        let other = self.offset_at(j);
         let transform = command_bounds::transform_at(self.bytes, at);
         let count = little_endian::u16_at(self.bytes, at + 101) as u32;
         let run = Run {
             glyphs: at + 103,
             count,
             transform,
-            clip: self.items[2 * i + 1],
+            clip: self.clip_number_at(i),
         };
         let other_run = Run {
             glyphs: other + 103,
             count,
             transform,
-            clip: self.items[2 * j + 1],
+            clip: self.clip_number_at(j),
         };
-        glyph_changes::changed_glyph_bounds(self.bytes, self.boxes, run, other_run, rects, n)
+        glyph_changes::changed_glyph_bounds(self.bytes, self.boxes, run, other_run, rects);
     }
 
     // Appends the boxes of what changed from the command at place i to the one at place j. Most that changed differ in an operand or
     // are RUNs of which only glyphs changed: those are told where they stand, and the others decoded.
-    pub fn changed_bounds(self, i: usize, j: usize, rects: &mut [f64], n: usize) -> usize
-        requires { Both i j self.bytes.now self.boxes.now self.below.now self.items.now self.item_boxes.now × (n + most_boxes < 9223372036854775808) }
-        ensures { Added most_boxes rects.old n (changed_bounds (command_in self.entry.bytes.now self.entry.boxes.now self.entry.below.now self.entry.items.now i) (command_in self.entry.bytes.now self.entry.boxes.now self.entry.below.now self.entry.items.now j)) rects.new result }
+    pub fn changed_bounds(self, i: usize, j: usize, rects: &mut RectList)
+        requires { Both i j self.bytes.now self.boxes.now self.below.now self.items.now self.item_boxes.now × (rects.old.count + most_boxes < 2 ^ 63) }
+        ensures { AddedTo most_boxes rects.old (changed_bounds (command_in self.entry.bytes.now self.entry.boxes.now self.entry.below.now self.entry.items.now i) (command_in self.entry.bytes.now self.entry.boxes.now self.entry.below.now self.entry.items.now j)) rects.new }
     {
-        let at = self.items[2 * i] as usize;
-        let other = self.items[2 * j] as usize;
+        let at = self.offset_at(i);
+        let other = self.offset_at(j);
         if apart(self.bytes, at, other) {
-            return self.append_union(i, j, rects, n);
+            self.append_union(i, j, rects);
+        } else if same_run(self.bytes, at, other)
+            && clips::same_clips(
+                self.boxes,
+                self.below,
+                self.clip_number_at(i),
+                self.clip_number_at(j),
+            )
+        {
+            self.changed_run(i, j, rects);
+        } else {
+            self.changed_decoded(i, j, rects);
         }
-        if same_run(self.bytes, at, other) {
-            let clip = self.items[2 * i + 1];
-            let other_clip = self.items[2 * j + 1];
-            if clips::same_clips(self.boxes, self.below, clip, other_clip) {
-                return self.changed_run(i, j, rects, n);
-            }
-        }
-        self.changed_decoded(i, j, rects, n)
     }
 
     // Appends the boxes of the commands from a place on.
-    fn append_bounds(self, first: usize, count: usize, rects: &mut [f64], n: usize) -> usize
-        requires { (4 * (first + count) ≤ length self.item_boxes.now) × (n + count < 9223372036854775808) }
-        ensures { Added count rects.old n (boxes_in self.entry.item_boxes.now first count) rects.new result }
+    fn append_bounds(self, first: usize, count: usize, rects: &mut RectList)
+        requires { (4 * (first + count) ≤ length self.item_boxes.now) × (rects.old.count + count < 2 ^ 63) }
+        ensures { AddedTo count rects.old (boxes_in self.entry.item_boxes.now first count) rects.new }
     {
-        let mut m = n;
         for i in first..first + count {
-            m = rect_list::append(rects, m, rect_words::rect_at(self.item_boxes, 4 * i));
+            rects.push(self.box_at(i));
         }
-        m
     }
 
-    // Whether the clips up to two numbers are equal, where those up to `known` and `other_known` are: most commands stand under the
+    // Whether the clips up to two numbers are equal, where those up to two that are known are: most commands stand under the
     // same clips as the one before, and then no clip is compared again.
-    fn clips_alike(self, one: u64, other: u64, known: u64, other_known: u64) -> bool
-        requires { Rooted self.boxes.now self.below.now one other × AlikeClips self.boxes.now self.below.now known other_known }
-        ensures { result ≡ same_clips (chain self.entry.boxes.now self.entry.below.now one) (chain self.entry.boxes.now self.entry.below.now other) }
+    fn clips_alike(self, numbers: (u64, u64), known: (u64, u64)) -> bool
+        requires { Rooted self.boxes.now self.below.now numbers.0 numbers.1 × AlikeClips self.boxes.now self.below.now known.0 known.1 }
+        ensures { result ≡ same_clips (chain self.entry.boxes.now self.entry.below.now numbers.0) (chain self.entry.boxes.now self.entry.below.now numbers.1) }
     {
-        (one, other) == (known, other_known)
-            || clips::same_clips(self.boxes, self.below, one, other)
+        numbers == known || clips::same_clips(self.boxes, self.below, numbers.0, numbers.1)
     }
 
     // True only where the commands at places i and j are equal.
-    fn same_placed(self, i: usize, j: usize, known: u64, other_known: u64) -> bool
-        requires { Standing self.bytes.now self.items.now i × Standing self.bytes.now self.items.now j × Rooted self.boxes.now self.below.now (clip_number_at self.items.now i) (clip_number_at self.items.now j) × AlikeClips self.boxes.now self.below.now known other_known }
+    fn same_placed(self, i: usize, j: usize, known: (u64, u64)) -> bool
+        requires { Standing self.bytes.now self.items.now i × Standing self.bytes.now self.items.now j × Rooted self.boxes.now self.below.now (clip_number_at self.items.now i) (clip_number_at self.items.now j) × AlikeClips self.boxes.now self.below.now known.0 known.1 }
         ensures { result ≡ true → Drawings.equal (command_in self.entry.bytes.now self.entry.boxes.now self.entry.below.now self.entry.items.now i) (command_in self.entry.bytes.now self.entry.boxes.now self.entry.below.now self.entry.items.now j) ≡ true }
     {
-        let at = self.items[2 * i] as usize;
-        let other = self.items[2 * j] as usize;
-        unchanged(self.bytes, at, other)
-            && self.clips_alike(
-                self.items[2 * i + 1],
-                self.items[2 * j + 1],
-                known,
-                other_known,
-            )
+        unchanged(self.bytes, self.offset_at(i), self.offset_at(j))
+            && self.clips_alike((self.clip_number_at(i), self.clip_number_at(j)), known)
     }
-}
 
-// Lists the boxes of what changed from a display list to another, and answers how many they are. The old list is the
-// first `old` commands of the space, the new one the `new` commands behind them. Where `rects` is too short the
-// number is still right.
-pub fn diff_dirty(
-    s: &[u8],
-    boxes: &[f64],
-    below: &[u64],
-    items: &[u64],
-    item_boxes: &[f64],
-    old: usize,
-    new: usize,
-    rects: &mut [f64],
-) -> usize
-    requires { Stored (old + new) s.now boxes.now below.now items.now item_boxes.now × (old ≤ 4096) × (new ≤ 4096) }
-    ensures { Listed rects.old (diff_dirty (commands_in s.now boxes.now below.now items.now 0 old) (commands_in s.now boxes.now below.now items.now old new)) rects.new result }
-{
-    let space = ListSpace {
-        bytes: s,
-        boxes,
-        below,
-        items,
-        item_boxes,
-    };
-    let common = old.min(new);
-    let mut m = 0;
-    let mut known = 0;
-    let mut other_known = 0;
-    for i in 0..common {
-        let j = old + i;
-        if space.same_placed(i, j, known, other_known) {
-            known = items[2 * i + 1];
-            other_known = items[2 * j + 1];
-        } else {
-            m = space.changed_bounds(i, j, rects, m);
+    // Lists the boxes of what changed from a display list to another, and answers how many they are. The old list is the
+    // first `old` commands of the space, the new one the `new` commands behind them. Where `rects` is too short the number is
+    // still right.
+    pub fn diff_dirty(self, old: usize, new: usize, rects: &mut [f64]) -> usize
+        requires { Stored (old + new) self.bytes.now self.boxes.now self.below.now self.items.now self.item_boxes.now × (old ≤ 4096) × (new ≤ 4096) }
+        ensures { Listed rects.old (diff_dirty (commands_in self.entry.bytes.now self.entry.boxes.now self.entry.below.now self.entry.items.now 0 old) (commands_in self.entry.bytes.now self.entry.boxes.now self.entry.below.now self.entry.items.now old new)) rects.new result }
+    {
+        let mut list = RectList::new(rects);
+        let common = old.min(new);
+        let mut known = (0, 0);
+        for i in 0..common {
+            let j = old + i;
+            if self.same_placed(i, j, known) {
+                known = (self.clip_number_at(i), self.clip_number_at(j));
+            } else {
+                self.changed_bounds(i, j, &mut list);
+            }
         }
+        self.append_bounds(common, old - common, &mut list);
+        self.append_bounds(old + common, new - common, &mut list);
+        list.count
     }
-    m = space.append_bounds(common, old - common, rects, m);
-    space.append_bounds(old + common, new - common, rects, m)
 }

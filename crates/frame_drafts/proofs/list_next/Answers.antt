@@ -12,11 +12,11 @@ overflow_add-count-2 c = (next_sums c.args.s.now _ _ c.args.glyph_items.now _ c.
 pub overflow_add-count-3 : goal.overflow_add-count-3
 overflow_add-count-3 c = (next_sums c.args.s.now _ _ c.args.glyph_items.now _ c.in_ok-both.ensures.answer c.in_ok-both.ensures.lengths c.in_ok-both.ensures.lists _ refl).1.1
 
-pub diff_dirty-changed-requires : goal.diff_dirty-changed-requires
-diff_dirty-changed-requires c = next_stored c.args.s.now _ _ c.args.glyph_items.now _ c.in_ok-both.ensures.answer c.in_ok-both.ensures.lengths c.in_ok-both.ensures.lists _ refl _ c.items_fit.ensures c.if-not-items_fit.false
+pub diff_dirty-n-requires : goal.diff_dirty-n-requires
+diff_dirty-n-requires c = next_stored c.args.s.now _ _ c.args.glyph_items.now _ c.in_ok-both.ensures.answer c.in_ok-both.ensures.lengths c.in_ok-both.ensures.lists _ refl _ c.items_fit.ensures c.if-not-items_fit.false
 
 pub returns-then-not-items_fit : goal.returns-then-not-items_fit
 returns-then-not-items_fit c = λ w h b R G W. ap Err c.at.ensures ∙ next_over c.args.s.now _ _ c.args.glyph_items.now _ c.in_ok-both.ensures.answer c.in_ok-both.ensures.lengths c.in_ok-both.ensures.lists _ refl _ c.items_fit.ensures c.if-not-items_fit.true w h b R G W
 
 pub returns : goal.returns
-returns c = λ w h b. next_stands c.args.s.now _ _ c.args.glyph_items.now _ c.in_ok-both.ensures.answer c.in_ok-both.ensures.lengths c.in_ok-both.ensures.lists _ refl _ c.items_fit.ensures c.if-not-items_fit.false _ _ _ c.diff_dirty-changed.ensures w h b
+returns c = λ w h b. next_stands c.args.s.now _ _ c.args.glyph_items.now _ c.in_ok-both.ensures.answer c.in_ok-both.ensures.lengths c.in_ok-both.ensures.lists _ refl _ c.items_fit.ensures c.if-not-items_fit.false _ _ _ c.diff_dirty-n.ensures w h b

@@ -1,6 +1,6 @@
 -- `ListSpace::changed_decoded` meets its contract: what is decoded stands for the commands of the list. Assumes nothing.
 use native.Mathlib.Omega.{arith}
-use Rattle.rect_list.proofs.Appends.{added_as}
+use Rattle.rect_list.proofs.Turns.{to_as}
 use Rattle.runtime.proofs.Pairs.{room_at, pair_of, changed_are}
 use Rattle.runtime.proofs.ListSpace.changed_decoded.Goals as goal
 
@@ -13,8 +13,5 @@ placed_at-new-requires c = room_at _ _ _ _ _ _ c.requires.0.stored _ c.requires.
 pub changed_placed-requires : goal.changed_placed-requires
 changed_placed-requires c = (pair_of _ _ _ _ _ _ _ c.requires.0 c.placed_at-old.ensures c.placed_at-new.ensures, c.requires.1)
 
-pub shape_of-rects : goal.shape_of-rects
-shape_of-rects c = c.changed_placed.auto.rects
-
 pub returns : goal.returns
-returns c = added_as (changed_are _ _ _ _ _ _ _ c.placed_at-old.ensures c.placed_at-new.ensures) (omega arith) c.changed_placed.ensures
+returns c = to_as (changed_are _ _ _ _ _ _ _ c.placed_at-old.ensures c.placed_at-new.ensures) (omega arith) c.changed_placed.ensures

@@ -1,6 +1,6 @@
 -- `ListSpace::changed_placed` meets its contract: four cases, by the first test that holds. Assumes nothing.
 use native.Mathlib.Omega.{arith}
-use Rattle.rect_list.proofs.Appends.{added_as, added_none}
+use Rattle.rect_list.proofs.Turns.{to_as, to_none}
 use Rattle.runtime.proofs.Pairs.{clip_room, case_equal, case_fills, case_runs, case_else}
 use Rattle.runtime.proofs.ListSpace.changed_placed.Goals as goal
 
@@ -8,13 +8,7 @@ pub equal-requires : goal.equal-requires
 equal-requires c = c.requires.0
 
 pub returns-then-equal : goal.returns-then-equal
-returns-then-equal c = added_as (case_equal _ _ _ _ _ c.requires.0 c.equal.ensures c.if-equal.true) (omega arith) (added_none {k = 0})
-
-pub shape_of-rects-then-fills_alike : goal.shape_of-rects-then-fills_alike
-shape_of-rects-then-fills_alike c = c.rect_symmetric_difference.auto.rects
-
-pub returns-then-fills_alike : goal.returns-then-fills_alike
-returns-then-fills_alike c = added_as (case_fills _ _ _ _ _ c.requires.0 c.equal.ensures c.if-equal.false c.fills_alike.ensures c.if-fills_alike.true) (omega arith) c.rect_symmetric_difference.ensures
+returns-then-equal c = to_as (case_equal _ _ _ _ _ c.requires.0 c.equal.ensures c.if-equal.true) (omega arith) (to_none {k = 0})
 
 pub runs_alike-requires : goal.runs_alike-requires
 runs_alike-requires c =
@@ -23,14 +17,11 @@ runs_alike-requires c =
 pub changed_glyph_bounds-requires : goal.changed_glyph_bounds-requires
 changed_glyph_bounds-requires c = (clip_room _ _ _ _ _ c.requires.0.clips c.requires.0.old, clip_room _ _ _ _ _ c.requires.0.clips c.requires.0.new, c.requires.0.old.glyphs, c.requires.0.new.glyphs, omega (arith, c.requires.1))
 
-pub shape_of-rects-then-runs_alike : goal.shape_of-rects-then-runs_alike
-shape_of-rects-then-runs_alike c = c.changed_glyph_bounds.auto.rects
+pub returns-then-fills_alike : goal.returns-then-fills_alike
+returns-then-fills_alike c = to_as (case_fills _ _ _ _ _ c.requires.0 c.equal.ensures c.if-equal.false c.fills_alike.ensures c.if-fills_alike.true) (omega arith) c.rect_symmetric_difference.ensures
 
 pub returns-then-runs_alike : goal.returns-then-runs_alike
-returns-then-runs_alike c = added_as (case_runs _ _ _ _ _ c.requires.0 c.equal.ensures c.if-equal.false c.fills_alike.ensures c.if-fills_alike.false c.runs_alike.ensures c.if-runs_alike.true) (omega arith) c.changed_glyph_bounds.ensures
+returns-then-runs_alike c = to_as (case_runs _ _ _ _ _ c.requires.0 c.equal.ensures c.if-equal.false c.fills_alike.ensures c.if-fills_alike.false c.runs_alike.ensures c.if-runs_alike.true) (omega arith) c.changed_glyph_bounds.ensures
 
-pub shape_of-rects : goal.shape_of-rects
-shape_of-rects c = c.append.auto.rects
-
-pub returns : goal.returns
-returns c = added_as (case_else _ _ _ _ _ c.requires.0 c.equal.ensures c.if-equal.false c.fills_alike.ensures c.if-fills_alike.false c.runs_alike.ensures c.if-runs_alike.false c.union.ensures) (omega arith) c.append.ensures
+pub returns-else-runs_alike : goal.returns-else-runs_alike
+returns-else-runs_alike c = to_as (case_else _ _ _ _ _ c.requires.0 c.equal.ensures c.if-equal.false c.fills_alike.ensures c.if-fills_alike.false c.runs_alike.ensures c.if-runs_alike.false c.union.ensures) (omega arith) c.push.ensures

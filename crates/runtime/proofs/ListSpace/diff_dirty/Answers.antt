@@ -1,0 +1,50 @@
+-- `ListSpace::diff_dirty` meets its contract: place by place, and then the boxes of what only one list has. Assumes nothing.
+use mathlib.Core.Path.{◌∙◌, ap, refl}
+use Prim.Native.Nat.{◌+◌, ◌<◌}
+use native.Mathlib.Omega.{arith}
+use Rattle.std.proofs.Common.{rules}
+use Rattle.rect_list.proofs.Turns.{to_start, to_add, to_skip, to_listed, listed_as}
+use Rattle.runtime.proofs.Repeats.{changed_same, clips_of, no_clips_alike, standing, rooted}
+use Rattle.runtime.proofs.Changes.{changed_start, changed_next, changed_rest}
+use Rattle.runtime.proofs.ListSpace.diff_dirty.Goals as goal
+use Rattle.runtime.proofs.ListSpace.diff_dirty.Goals.{then-same_placed, else-same_placed}
+
+pub loop-i-init : goal.loop-i-init
+loop-i-init c = (omega (arith, c.new-list.ensures.1), to_skip to_start (changed_start _ _ _ _ _ _), no_clips_alike _ _)
+
+pub same_placed-requires : goal.same_placed-requires
+same_placed-requires c =
+    let old : c.loop-i.i < c.args.old + c.args.new = omega (arith, c.min-common.ensures, c.loop-i-test.true) in
+    let new : c.args.old + c.loop-i.i < c.args.old + c.args.new = omega (arith, c.min-common.ensures, c.loop-i-test.true) in
+    (standing _ _ _ _ _ _ c.requires.0 _ old, standing _ _ _ _ _ _ c.requires.0 _ new, rooted _ _ _ _ _ _ c.requires.0 _ _ old new, c.loop-i.invariant.2)
+
+pub changed_bounds-requires : goal.changed_bounds-requires
+changed_bounds-requires c = (record { count = _; stored = c.requires.0; old = omega (arith, c.min-common.ensures, c.loop-i-test.true); new = omega (arith, c.min-common.ensures, c.loop-i-test.true) }, omega (arith, c.min-common.ensures, c.loop-i-test.true, c.loop-i.invariant.0, c.requires.1))
+
+pub loop-i-preserved : goal.loop-i-preserved
+loop-i-preserved c =
+    let old : c.loop-i.i < c.args.old = omega (arith, c.min-common.ensures, c.loop-i-test.true) in
+    let new : c.loop-i.i < c.args.new = omega (arith, c.min-common.ensures, c.loop-i-test.true) in
+    elim c.if-same_placed.branch [
+      | then-same_placed w ↦
+          let same = c.same_placed.ensures w.if-same_placed.true in
+          rw (w.list-is, w.known-is, w.clip_number_at.ensures, w.clip_number_at-then-same_placed.ensures)
+          (omega (arith, c.loop-i.invariant.0), to_skip c.loop-i.invariant.1 (changed_same _ _ _ _ _ _ c.loop-i.i old new same), clips_of c.args.self.bytes.now c.args.self.boxes.now c.args.self.below.now c.args.self.items.now _ _ same)
+      | else-same_placed w ↦
+          rw (w.list-is, w.known-is)
+          (omega (arith, c.loop-i.invariant.0, w.changed_bounds.ensures.added.most), to_add c.loop-i.invariant.1 (changed_next _ _ _ _ _ _ c.loop-i.i old new) w.changed_bounds.ensures, c.loop-i.invariant.2)
+    ]
+
+-- the remainders
+pub append_bounds-requires : goal.append_bounds-requires
+append_bounds-requires c = (omega (arith, c.min-common.ensures, c.requires.0.boxes), omega (arith, c.min-common.ensures, c.loop-i.invariant.0, c.loop-i.auto.i-end, c.requires.1))
+
+pub append_bounds-requires-2 : goal.append_bounds-requires-2
+append_bounds-requires-2 c = (omega (arith, c.min-common.ensures, c.requires.0.boxes), omega (arith, c.min-common.ensures, c.loop-i.invariant.0, c.loop-i.auto.i-end, c.append_bounds.ensures.added.most, c.requires.1, c.requires.2))
+
+-- what is in the list's words at the end is in the lent slice, since they are the same place
+pub returns : goal.returns
+returns c =
+    let going = to_add c.loop-i.invariant.1 (changed_rest _ _ _ _ _ _ _ c.requires.0 c.loop-i.i c.min-common.result (omega (arith, c.loop-i.auto.i-end, c.loop-i-test.false)) c.min-common.ensures) c.append_bounds.ensures in
+    let named = c.append_bounds-2.ensures.same_place ∙ going.same_place ∙ ap (λ w. w.ghost_name) c.new-list.ensures.0 in
+    listed_as (to_listed going refl c.append_bounds-2.ensures c.new-list.ensures.1) (ap (λ w. w.now) c.new-list.ensures.0) (search (rules, named))
