@@ -44,12 +44,9 @@ pub fn floor_to(x: f64, limit: u32) -> u32
 pub fn ceil_to(x: f64, limit: u32) -> u32
     ensures { result ≡ min (Whole.ceil x) limit }
 {
-    let below = floor_to(x, limit);
-    if below < limit && f64::from(below) < x {
-        below + 1
-    } else {
-        below
-    }
+    let low = floor_to(x, limit);
+    let more = f64::from(low) < x;
+    if low < limit && more { low + 1 } else { low }
 }
 
 // The greatest f64 below y. Minus infinity and a NaN, which have none, are handed back.

@@ -107,7 +107,6 @@ impl Rect {
 fn spans(low: f64, high: f64, n: u32) -> bool
     ensures { result ≡ Pixels.spans low high n }
 {
-    let start = n as u64;
-    let end = start + 1;
-    low < std::num::nearest_u64_to_f64(end) && std::num::nearest_u64_to_f64(start) < high
+    let end = u64::from(n) + 1;
+    low < std::num::nearest_u64_to_f64(end) && f64::from(n) < high
 }
