@@ -1,6 +1,6 @@
 -- Affines and transformed boxes, as document 01 gives kurbo's.
-use Rattle.std.specs.Prelude.{Bool, ◌&&◌, Float, Option, Some, None}
-use Rattle.std.specs.Float.{binary64}
+use Rattle.std.specs.Prelude.{Bool, ◌&&◌, List, get_or, Float, Option, Some, None}
+use Rattle.std.specs.Float.{nan, binary64}
 use Rattle.std.specs.Float.Ieee.{add, mul}
 use Rattle.std.specs.Float.Ieee.Scale.{finite}
 use Rattle.lists.specs.Pick.{pick}
@@ -17,6 +17,10 @@ x ⊕ y = add binary64 x y
 
 abbrev pub ◌⊗◌ : Float → Float → Float
 x ⊗ y = mul binary64 x y
+
+-- "An affine is a, b, c, d, e, f.": the affine of six numbers. No code reads past the sixth.
+abbrev pub of_entries : List Float → Affine
+of_entries ts = record { a = get_or ts 0 nan; b = get_or ts 1 nan; c = get_or ts 2 nan; d = get_or ts 3 nan; e = get_or ts 4 nan; f = get_or ts 5 nan }
 
 -- "The affine sends (x, y) to (a times x + c times y + e, b times x + d times y + f), each operation rounded once, left to right."
 abbrev pub transform_point : Affine → Float → Float → Point

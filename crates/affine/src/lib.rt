@@ -24,6 +24,14 @@ pub struct Affine {
     pub f: f64,
 }
 
+impl From<[f64; 6]> for Affine {
+    ghost from_gives = { λ entries affine. affine ≡ Affines.of_entries entries };
+
+    fn from([a, b, c, d, e, f]: [f64; 6]) -> Affine {
+        Affine { a, b, c, d, e, f }
+    }
+}
+
 fn least(p: f64, q: f64, r: f64, s: f64) -> f64
     ensures { result ≡ Affines.least p q r s }
 {

@@ -1,9 +1,16 @@
 -- Boxes, as document 01 gives kurbo's: "A box is x0, y0, x1, y1, and may be reversed."
-use Rattle.std.specs.Prelude.{Bool, ◌&&◌, Float}
-use Rattle.std.specs.Float.{binary64}
+use Rattle.std.specs.Prelude.{Bool, ◌&&◌, List, [], ◌∷◌, get_or, Float}
+use Rattle.std.specs.Float.{nan, binary64}
 use Rattle.std.specs.Float.Ieee.{add, sub, lt, eq}
 use Rattle.floats.specs.Order.{larger, smaller}
 use Rattle.geometry.specs.declared.Rect.{Rect}
+
+-- "A box is x0, y0, x1, y1": the box of four numbers, and its edges. No code reads past the fourth.
+abbrev pub of_edges : List Float → Rect
+of_edges es = record { x0 = get_or es 0 nan; y0 = get_or es 1 nan; x1 = get_or es 2 nan; y1 = get_or es 3 nan }
+
+abbrev pub edges : Rect → List Float
+edges b = b.x0 ∷ b.y0 ∷ b.x1 ∷ b.y1 ∷ []
 
 -- "Intersect: x0 is the larger x0; x1 the smaller x1, raised to x0 if below it; y alike."
 abbrev pub intersect : Rect → Rect → Rect

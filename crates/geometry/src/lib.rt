@@ -15,6 +15,22 @@ pub struct Rect {
     pub y1: f64,
 }
 
+impl From<[f64; 4]> for Rect {
+    ghost from_gives = { λ edges rect. rect ≡ Boxes.of_edges edges };
+
+    fn from([x0, y0, x1, y1]: [f64; 4]) -> Rect {
+        Rect { x0, y0, x1, y1 }
+    }
+}
+
+impl From<Rect> for [f64; 4] {
+    ghost from_gives = { λ rect edges. edges ≡ Boxes.edges rect };
+
+    fn from(rect: Rect) -> [f64; 4] {
+        [rect.x0, rect.y0, rect.x1, rect.y1]
+    }
+}
+
 impl Rect {
     // What both boxes cover; an empty box at the larger low edges where that is nothing.
     pub fn intersect(self, other: Rect) -> Rect

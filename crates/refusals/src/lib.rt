@@ -10,27 +10,27 @@ use std::fmt;
 #[derive(Clone, Copy, Debug, PartialEq, Eq)]
 pub enum Fault {
     // A width, height or band height is 0 or too large.
-    Size,
+    Size = 1,
     // The bytes end within the header, before a command or within one.
-    CutOff,
+    CutOff = 2,
     // A byte is no command's, or a code no join's or cap's.
-    UnknownCode,
+    UnknownCode = 3,
     // A float is infinite or a NaN.
-    NotFinite,
+    NotFinite = 4,
     // A clip is closed where none is open.
-    NoOpenClip,
+    NoOpenClip = 5,
     // One clip, drawing command or glyph more than a frame may have.
-    TooMany,
+    TooMany = 6,
     // A glyph where none is due, or another command while glyphs are due.
-    GlyphOrder,
+    GlyphOrder = 7,
     // A byte follows the end.
-    TrailingByte,
+    TrailingByte = 8,
     // An inflated edge or a transformed corner of a box is not finite.
-    BoxNotFinite,
+    BoxNotFinite = 9,
     // The space lent is too small.
-    NoRoom,
+    NoRoom = 10,
     // The index words do not have the region's row.
-    NoRow,
+    NoRow = 11,
 }
 
 // A fault, and the byte of the input at which it was found.
@@ -45,19 +45,7 @@ impl Fault {
     pub fn number(self) -> u32
         ensures { result ≡ Table.number self }
     {
-        match self {
-            Fault::Size => 1,
-            Fault::CutOff => 2,
-            Fault::UnknownCode => 3,
-            Fault::NotFinite => 4,
-            Fault::NoOpenClip => 5,
-            Fault::TooMany => 6,
-            Fault::GlyphOrder => 7,
-            Fault::TrailingByte => 8,
-            Fault::BoxNotFinite => 9,
-            Fault::NoRoom => 10,
-            Fault::NoRow => 11,
-        }
+        self as u32
     }
 
     // The fault at a byte.
