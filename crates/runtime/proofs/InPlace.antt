@@ -30,6 +30,7 @@ use Rattle.strip_format.specs.Format.{length_of, affine_at, run_at, command_at}
 use Rattle.strip_format.proofs.Lengths.{length_run}
 use Rattle.strip_format.proofs.Numbers.{single_finite, entry_numbers}
 use Rattle.strip_laws.proofs.Alike.{command_twice}
+use Rattle.strip_format.specs.declared.Kind.TheVariants.{Run as RunKind}
 use Rattle.command_bounds.specs.Kinds.{kind_at}
 use Rattle.command_bounds.proofs.Standing.{stands, is_run}
 use Rattle.changes.specs.Changes.{changed_bounds}
@@ -85,12 +86,12 @@ abbrev Alike : DrawCommand → DrawCommand → Type 0
 Alike c d = (fills_alike c d ≡ false) × (runs_alike c d ≡ true)
 
 module _ (s : List ℕ) (p q : ℕ) where
-  pub run_twice : {a b : ℕ} → a ≡ kind_at s p → a ≡ 5 → b ≡ kind_at s q → b ≡ 5 → SameBytes s p q 103 → SameRun s p q
-  run_twice u e v f w =
-      let x = stands s p 5 (omega arith) (sym u ∙ e) in
-      let y = is_run s p (sym u ∙ e) in
-      let z = is_run s q (sym v ∙ f) in
-      (sym u ∙ e, sym v ∙ f, command_twice s p q 103 w (rw x.0 (omega (arith, length_run))) y.1 z.1)
+  pub run_twice : kind_at s p ≡ Some RunKind → kind_at s q ≡ Some RunKind → SameBytes s p q 103 → SameRun s p q
+  run_twice e f w =
+      let x = stands s p RunKind e in
+      let y = is_run s p e in
+      let z = is_run s q f in
+      (e, f, command_twice s p q 103 w (rw x.0 (omega (arith, length_run))) y.1 z.1)
 
   run_self : Alike (run_at s p) (run_at s p)
   unfolding fills_alike runs_alike run_alike same_bits

@@ -1,5 +1,5 @@
 -- Commands of a list in lent space, decoded to be compared.
-use Rattle.std.specs.Prelude.{◌≡◌, Bool, true, false, List, [], ◌∷◌, ℕ, zero, suc, ◌+◌, ◌*◌, ◌≤◌, ◌<◌, eqb, length, get_or, Float}
+use Rattle.std.specs.Prelude.{◌≡◌, Bool, true, false, List, [], ◌∷◌, ℕ, zero, suc, ◌+◌, ◌*◌, ◌≤◌, ◌<◌, eqb, length, get_or, Some, Float}
 use Rattle.lists.specs.Pick.{pick}
 use Rattle.little_endian.specs.Words.{u16_at}
 use Rattle.geometry.specs.declared.Rect.{Rect}
@@ -8,6 +8,7 @@ use Rattle.operand_equality.specs.Operands.{same_clips}
 use Rattle.clips.specs.Chains.{chain, Clips}
 use Rattle.display_list.specs.Lists.{offset_at, clip_number_at, box_at}
 use Rattle.equality.specs.Drawings.{same_drawing}
+use Rattle.strip_format.specs.declared.Kind.TheVariants.{Run as RunKind}
 use Rattle.strip_format.specs.Format.{length_of, command_at}
 use Rattle.command_bounds.specs.Kinds.{kind_at}
 use Rattle.stored_lists.specs.Stored.{Stored}

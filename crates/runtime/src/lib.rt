@@ -23,6 +23,7 @@ use commands::DrawCommand;
 use geometry::Rect;
 use glyph_changes::Run;
 use rect_list::RectList;
+use strip_format::Kind;
 
 // The counts that dew keeps of a frame, as far as a plan tells them.
 #[derive(Clone, Copy, Debug, PartialEq, Eq)]
@@ -79,20 +80,17 @@ fn glyph_count(command: DrawCommand) -> u32
 fn apart(s: &[u8], at: usize, other: usize) -> bool
     ensures { result ≡ Placed.apart s.now at other }
 {
-    little_endian::byte_at(s, at) != 5 && !strip_equality::same_drawing_at(s, at, other)
+    Kind::try_from(little_endian::byte_at(s, at)) != Ok(Kind::Run)
+        && !strip_equality::same_drawing_at(s, at, other)
 }
 
 // True only where the same RUN stands at both offsets, but for its glyphs: its bytes are the same.
 fn same_run(s: &[u8], at: usize, other: usize) -> bool
     ensures { result ≡ true → SameRun s.now at other }
 {
-    match (
-        command_bounds::kind_at(s, at),
-        command_bounds::kind_at(s, other),
-    ) {
-        (Some(Kind::Run), Some(Kind::Run)) => little_endian::same_bytes(s, at, other, 103),
-        _ => false,
-    }
+    command_bounds::kind_at(s, at) == Some(Kind::Run)
+        && command_bounds::kind_at(s, other) == Some(Kind::Run)
+        && little_endian::same_bytes(s, at, other, Kind::Run.length())
 }
 
 // The length of the command at an offset, with its glyphs.
@@ -101,12 +99,16 @@ fn whole_length(s: &[u8], at: usize) -> usize
     requires { at < length s.now }
     ensures { result ≡ whole_length s.now at }
 {
-    let b = s[at];
-    if b == 5 {
-        let count = little_endian::u16_at(s, at + 101) as usize;
-        return 103 + 45 * count;
+    let Ok(kind) = Kind::try_from(s[at]) else {
+        return 1;
+    };
+    match kind {
+        Kind::Run => {
+            let count = little_endian::u16_at(s, at + 101) as usize;
+            Kind::Run.length() + Kind::Glyph.length() * count
+        }
+        _ => kind.length(),
     }
-    strip_format::length_of(b)
 }
 
 // True only where the same command stands at both offsets, with the same glyphs: their bytes are the same, and nothing is

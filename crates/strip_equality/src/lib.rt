@@ -104,13 +104,16 @@ fn same_decoded(s: &[u8], p: usize, q: usize) -> bool
 pub fn same_drawing_at(s: &[u8], p: usize, q: usize) -> bool
     ensures { result ≡ same_drawing (command_at s.now p) (command_at s.now q) }
 {
-    match (
-        command_bounds::kind_at(s, p),
-        command_bounds::kind_at(s, q),
-    ) {
-        (Some(Kind::Fill), Some(Kind::Fill)) => same_path(s, p, q),
-        (Some(Kind::Stroke), Some(Kind::Stroke)) => same_stroked(s, p, q),
-        (Some(Kind::Scene), Some(Kind::Scene)) => same_scene(s, p, q),
+    let Some(kind) = command_bounds::kind_at(s, p) else {
+        return same_decoded(s, p, q);
+    };
+    if command_bounds::kind_at(s, q) != Some(kind) {
+        return same_decoded(s, p, q);
+    }
+    match kind {
+        Kind::Fill => same_path(s, p, q),
+        Kind::Stroke => same_stroked(s, p, q),
+        Kind::Scene => same_scene(s, p, q),
         _ => same_decoded(s, p, q),
     }
 }

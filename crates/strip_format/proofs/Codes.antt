@@ -1,15 +1,17 @@
 -- A kind and its byte tell one another. Assumes nothing.
 use mathlib.Core.Path.{◌≡◌, refl, sym, ap, subst, ◌∙◌}
-use mathlib.Core.Bool.{true}
+use mathlib.Core.Bool.{Bool, true, false, not, false≢true}
 use Prim.Native.Nat.{ℕ, ◌<◌, ◌≤◌}
 use native.Mathlib.Omega.{arith}
 use lib.Dec.{eqb}
 use borrow.Author.Tests.{eqb-true, ne_eqb}
 use Rattle.std.specs.Prelude.{Option, Some, None, Result, Ok, Err}
-use Rattle.std.specs.Result.{result_ok}
+use Rattle.std.specs.Result.{result_ok, result_eq}
+use Rattle.std.specs.Option.{option_eq}
 use Rattle.lists.specs.Pick.{pick}
 use Rattle.lists.proofs.Picks.{pick_cases}
 use Rattle.strip_format.specs.declared.Kind.{Kind}
+use Rattle.strip_format.specs.contracts.KindPartialEq.TheImpl as kinds
 use Rattle.strip_format.specs.declared.Kind.TheVariants.{End, Clip, Pop, Fill, Stroke, Run, Glyph, Scene}
 use Rattle.strip_format.specs.Kinds.{code, kind_of, Decodes}
 
@@ -73,3 +75,91 @@ kind_code b k =
 pub decoded : (b : ℕ) (r : Result Kind ℕ) (o : Option Kind) → Decodes b r → o ≡ result_ok r → kind_of b ≡ o
 decoded b (Ok k) o d e = ap kind_of (sym d) ∙ kind_known k ∙ sym e
 decoded b (Err x) o d e = kind_unknown b d.1 ∙ sym e
+
+-- kinds that `==` finds equal are one, and so are kinds that may be missing
+kind_told : (k l : Kind) → kinds.ghosts.eq k l ≡ eqb (code k) (code l)
+kind_told End End = refl
+kind_told End Clip = refl
+kind_told End Pop = refl
+kind_told End Fill = refl
+kind_told End Stroke = refl
+kind_told End Run = refl
+kind_told End Glyph = refl
+kind_told End Scene = refl
+kind_told Clip End = refl
+kind_told Clip Clip = refl
+kind_told Clip Pop = refl
+kind_told Clip Fill = refl
+kind_told Clip Stroke = refl
+kind_told Clip Run = refl
+kind_told Clip Glyph = refl
+kind_told Clip Scene = refl
+kind_told Pop End = refl
+kind_told Pop Clip = refl
+kind_told Pop Pop = refl
+kind_told Pop Fill = refl
+kind_told Pop Stroke = refl
+kind_told Pop Run = refl
+kind_told Pop Glyph = refl
+kind_told Pop Scene = refl
+kind_told Fill End = refl
+kind_told Fill Clip = refl
+kind_told Fill Pop = refl
+kind_told Fill Fill = refl
+kind_told Fill Stroke = refl
+kind_told Fill Run = refl
+kind_told Fill Glyph = refl
+kind_told Fill Scene = refl
+kind_told Stroke End = refl
+kind_told Stroke Clip = refl
+kind_told Stroke Pop = refl
+kind_told Stroke Fill = refl
+kind_told Stroke Stroke = refl
+kind_told Stroke Run = refl
+kind_told Stroke Glyph = refl
+kind_told Stroke Scene = refl
+kind_told Run End = refl
+kind_told Run Clip = refl
+kind_told Run Pop = refl
+kind_told Run Fill = refl
+kind_told Run Stroke = refl
+kind_told Run Run = refl
+kind_told Run Glyph = refl
+kind_told Run Scene = refl
+kind_told Glyph End = refl
+kind_told Glyph Clip = refl
+kind_told Glyph Pop = refl
+kind_told Glyph Fill = refl
+kind_told Glyph Stroke = refl
+kind_told Glyph Run = refl
+kind_told Glyph Glyph = refl
+kind_told Glyph Scene = refl
+kind_told Scene End = refl
+kind_told Scene Clip = refl
+kind_told Scene Pop = refl
+kind_told Scene Fill = refl
+kind_told Scene Stroke = refl
+kind_told Scene Run = refl
+kind_told Scene Glyph = refl
+kind_told Scene Scene = refl
+
+pub kind_same : (k l : Kind) → kinds.ghosts.eq k l ≡ true → k ≡ l
+kind_same k l e = code_one k l (eqb-true (code k) (code l) (sym (kind_told k l) ∙ e))
+
+pub kinds_same : (o p : Option Kind) → option_eq kinds.ghosts.eq o p ≡ true → o ≡ p
+kinds_same None None e = refl
+kinds_same None (Some l) e = absurd (false≢true e)
+kinds_same (Some k) None e = absurd (false≢true e)
+kinds_same (Some k) (Some l) e = ap Some (kind_same k l e)
+
+pub kinds_alike : (o p : Option Kind) {r : Bool} → r ≡ not (option_eq kinds.ghosts.eq o p) → r ≡ false → o ≡ p
+kinds_alike o p e f = kinds_same o p (not_false (option_eq kinds.ghosts.eq o p) (sym e ∙ f))
+  where
+    not_false : (b : Bool) → not b ≡ false → b ≡ true
+    not_false true h = refl
+    not_false false h = absurd (false≢true (sym h))
+
+-- whether a byte is read as a kind
+pub kind_read : (b : ℕ) (r : Result Kind ℕ) (k : Kind) → Decodes b r → result_eq kinds.ghosts.eq eqb r (Ok k) ≡ eqb b (code k)
+kind_read b (Ok l) k d = kind_told l k ∙ ap (λ (n : ℕ). eqb n (code k)) d
+kind_read b (Err x) k d = sym (ne_eqb b (code k) (λ e. omega (arith, d.1, e, code_most k)))

@@ -3,6 +3,7 @@ use mathlib.Core.Path.{◌≡◌, refl}
 use Prim.Native.Nat.{ℕ, ◌<◌}
 use native.Mathlib.Omega.{arith}
 use lib.Dec.{eqb}
+use borrow.Author.Tests.{ne_eqb}
 use Rattle.lists.proofs.Picks.{pick_cases}
 use Rattle.strip_format.specs.Format.{length_of}
 
@@ -16,6 +17,11 @@ length_pos b =
     λ e. pick_cases (λ n. 0 < n) (eqb b 5) _ _ (λ e. omega arith)
     λ e. pick_cases (λ n. 0 < n) (eqb b 6) _ _ (λ e. omega arith)
     λ e. pick_cases (λ n. 0 < n) (eqb b 7) _ _ (λ e. omega arith) (λ e. omega arith)
+
+-- a byte that is no command's stands alone
+pub length_unknown : (b : ℕ) → 7 < b → length_of b ≡ 1
+unfolding length_of
+length_unknown b h = simp (ne_eqb b 1 (λ e. omega arith), ne_eqb b 3 (λ e. omega arith), ne_eqb b 4 (λ e. omega arith), ne_eqb b 5 (λ e. omega arith), ne_eqb b 6 (λ e. omega arith), ne_eqb b 7 (λ e. omega arith))
 
 -- the lengths that a drawing command and a glyph have
 pub length_clip : length_of 1 ≡ 33
