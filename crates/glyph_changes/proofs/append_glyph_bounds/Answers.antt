@@ -1,14 +1,8 @@
 -- `glyph_changes::append_glyph_bounds` meets its contract: what is left, appended to what is there, is the whole. Assumes nothing.
 use native.Mathlib.Omega.{arith}
-use Rattle.rect_list.proofs.Turns.{to_start, to_add, to_end}
+use Rattle.rect_list.proofs.Turns.{to_add, to_end}
 use Rattle.glyph_changes.proofs.Places.{boxes_end, boxes_next}
 use Rattle.glyph_changes.proofs.append_glyph_bounds.Goals as goal
-
-pub loop-k-init : goal.loop-k-init
-loop-k-init c = (omega arith, omega (arith, c.requires), omega arith, to_start)
-
-pub push-requires : goal.push-requires
-push-requires c = omega (arith, c.loop-k.invariant.2, c.loop-k-test.true)
 
 pub loop-k-preserved : goal.loop-k-preserved
 loop-k-preserved c = (omega arith, omega arith, omega (arith, c.push.ensures.added.most), to_add c.loop-k.invariant.3 (boxes_next _ _ _ _ _ (omega arith) c.window_at.ensures) c.push.ensures)

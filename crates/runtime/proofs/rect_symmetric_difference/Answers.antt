@@ -4,9 +4,6 @@ use Rattle.differences.specs.Differences.{rect_symmetric_difference}
 use Rattle.rect_list.proofs.Turns.{to_both, to_as}
 use Rattle.runtime.proofs.rect_symmetric_difference.Goals as goal
 
-pub extend_parts-requires-2 : goal.extend_parts-requires-2
-extend_parts-requires-2 c = omega (arith, c.extend_parts.ensures.added.most, c.requires)
-
 pub returns : goal.returns
 unfolding rect_symmetric_difference
 returns c = to_both {j = 4} {k = 4} (to_as c.rect_difference.ensures (omega arith) c.extend_parts.ensures) (to_as c.rect_difference-2.ensures (omega arith) c.extend_parts-2.ensures)

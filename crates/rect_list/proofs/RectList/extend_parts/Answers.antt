@@ -1,18 +1,13 @@
 -- `RectList::extend_parts` meets its contract: the parts, one after the other. Assumes nothing.
-use Rattle.std.proofs.Common.{rules, ◌≡◌, ◌<◌, length, ap}
-use Rattle.std.proofs.lemmas.List.{take_all}
+use Rattle.std.proofs.Common.{rules, ◌≡◌, ◌<◌, length}
 use native.Mathlib.Omega.{arith}
-use Rattle.differences.specs.Differences.{list_of}
 use Rattle.rect_list.proofs.Parts.{part_to, some_to, none_to}
-use Rattle.rect_list.proofs.Turns.{to_none, to_as}
+use Rattle.rect_list.proofs.Turns.{to_none}
 use Rattle.rect_list.proofs.RectList.extend_parts.Goals as goal
 use Rattle.rect_list.proofs.RectList.extend_parts.Goals.{in-Some, in_default}
 
 pub loop-part-init : goal.loop-part-init
 loop-part-init c = to_none
-
-pub push-requires : goal.push-requires
-push-requires c = omega (arith, c.loop-part.invariant.added.most)
 
 pub loop-part-preserved : goal.loop-part-preserved
 loop-part-preserved c =
@@ -23,7 +18,3 @@ loop-part-preserved c =
       | in_default w ↦ rw w.self-is (part_to _ _ h c.loop-part.invariant (none_to w.in_default.is))
     ]
 
-pub returns : goal.returns
-returns c =
-    let four : length c.args.parts ≡ 4 = search rules in
-    to_as (ap list_of (take_all c.loop-part.part-index c.args.parts (omega (arith, c.loop-part-test.false)))) c.loop-part.auto.part-index-end c.loop-part.invariant

@@ -1,17 +1,8 @@
 -- `ListSpace::append_bounds` meets its contract: what is left, appended to what is there, is the whole. Assumes nothing.
 use native.Mathlib.Omega.{arith}
-use Rattle.rect_list.proofs.Turns.{to_start, to_skip, to_add, to_end}
-use Rattle.runtime.proofs.Changes.{boxes_start, boxes_end, boxes_to}
+use Rattle.rect_list.proofs.Turns.{to_add, to_end}
+use Rattle.runtime.proofs.Changes.{boxes_end, boxes_to}
 use Rattle.runtime.proofs.ListSpace.append_bounds.Goals as goal
-
-pub loop-i-init : goal.loop-i-init
-loop-i-init c = (omega arith, to_skip to_start (boxes_start _ _ _))
-
-pub box_at-requires : goal.box_at-requires
-box_at-requires c = omega (arith, c.loop-i-test.true)
-
-pub push-requires : goal.push-requires
-push-requires c = omega (arith, c.loop-i.invariant.0, c.loop-i-test.true, c.requires.1)
 
 pub loop-i-preserved : goal.loop-i-preserved
 loop-i-preserved c = (omega (arith, c.push.ensures.added.most, c.loop-i.invariant.0, c.loop-i-test.true), to_add c.loop-i.invariant.1 (boxes_to _ _ _ _ c.loop-i-test.true c.box_at.ensures) c.push.ensures)

@@ -1,14 +1,8 @@
 -- `ListSpace::changed_decoded` meets its contract: what is decoded stands for the commands of the list. Assumes nothing.
 use native.Mathlib.Omega.{arith}
 use Rattle.rect_list.proofs.Turns.{to_as}
-use Rattle.runtime.proofs.Pairs.{room_at, pair_of, changed_are}
+use Rattle.runtime.proofs.Pairs.{pair_of, changed_are}
 use Rattle.runtime.proofs.ListSpace.changed_decoded.Goals as goal
-
-pub placed_at-old-requires : goal.placed_at-old-requires
-placed_at-old-requires c = room_at _ _ _ _ _ _ c.requires.0.stored _ c.requires.0.old
-
-pub placed_at-new-requires : goal.placed_at-new-requires
-placed_at-new-requires c = room_at _ _ _ _ _ _ c.requires.0.stored _ c.requires.0.new
 
 pub changed_placed-requires : goal.changed_placed-requires
 changed_placed-requires c = (pair_of _ _ _ _ _ _ _ c.requires.0 c.placed_at-old.ensures c.placed_at-new.ensures, c.requires.1)

@@ -1,21 +1,11 @@
 -- `ListSpace::changed_placed` meets its contract: four cases, by the first test that holds. Assumes nothing.
 use native.Mathlib.Omega.{arith}
 use Rattle.rect_list.proofs.Turns.{to_as, to_none}
-use Rattle.runtime.proofs.Pairs.{clip_room, case_equal, case_fills, case_runs, case_else}
+use Rattle.runtime.proofs.Pairs.{case_equal, case_fills, case_runs, case_else}
 use Rattle.runtime.proofs.ListSpace.changed_placed.Goals as goal
-
-pub equal-requires : goal.equal-requires
-equal-requires c = c.requires.0
 
 pub returns-then-equal : goal.returns-then-equal
 returns-then-equal c = to_as (case_equal _ _ _ _ _ c.requires.0 c.equal.ensures c.if-equal.true) (omega arith) (to_none {k = 0})
-
-pub runs_alike-requires : goal.runs_alike-requires
-runs_alike-requires c =
-    record { used = _; chained = c.requires.0.clips.chained; one = c.requires.0.old.clip; other = c.requires.0.new.clip }
-
-pub changed_glyph_bounds-requires : goal.changed_glyph_bounds-requires
-changed_glyph_bounds-requires c = (clip_room _ _ _ _ _ c.requires.0.clips c.requires.0.old, clip_room _ _ _ _ _ c.requires.0.clips c.requires.0.new, c.requires.0.old.glyphs, c.requires.0.new.glyphs, omega (arith, c.requires.1))
 
 pub returns-then-fills_alike : goal.returns-then-fills_alike
 returns-then-fills_alike c = to_as (case_fills _ _ _ _ _ c.requires.0 c.equal.ensures c.if-equal.false c.fills_alike.ensures c.if-fills_alike.true) (omega arith) c.rect_symmetric_difference.ensures

@@ -18,9 +18,6 @@ same_placed-requires c =
     let new : c.args.old + c.loop-i.i < c.args.old + c.args.new = omega (arith, c.min-common.ensures, c.loop-i-test.true) in
     (standing _ _ _ _ _ _ c.requires.0 _ old, standing _ _ _ _ _ _ c.requires.0 _ new, rooted _ _ _ _ _ _ c.requires.0 _ _ old new, c.loop-i.invariant.2)
 
-pub changed_bounds-requires : goal.changed_bounds-requires
-changed_bounds-requires c = (record { count = _; stored = c.requires.0; old = omega (arith, c.min-common.ensures, c.loop-i-test.true); new = omega (arith, c.min-common.ensures, c.loop-i-test.true) }, omega (arith, c.min-common.ensures, c.loop-i-test.true, c.loop-i.invariant.0, c.requires.1))
-
 pub loop-i-preserved : goal.loop-i-preserved
 loop-i-preserved c =
     let old : c.loop-i.i < c.args.old = omega (arith, c.min-common.ensures, c.loop-i-test.true) in
@@ -36,13 +33,6 @@ loop-i-preserved c =
     ]
 
 -- the remainders
-pub append_bounds-requires : goal.append_bounds-requires
-append_bounds-requires c = (omega (arith, c.min-common.ensures, c.requires.0.boxes), omega (arith, c.min-common.ensures, c.loop-i.invariant.0, c.loop-i.auto.i-end, c.requires.1))
-
-pub append_bounds-requires-2 : goal.append_bounds-requires-2
-append_bounds-requires-2 c = (omega (arith, c.min-common.ensures, c.requires.0.boxes), omega (arith, c.min-common.ensures, c.loop-i.invariant.0, c.loop-i.auto.i-end, c.append_bounds.ensures.added.most, c.requires.1, c.requires.2))
-
--- what is in the list's words at the end is in the lent slice, since they are the same place
 pub returns : goal.returns
 returns c =
     let going = to_add c.loop-i.invariant.1 (changed_rest _ _ _ _ _ _ _ c.requires.0 c.loop-i.i c.min-common.result (omega (arith, c.loop-i.auto.i-end, c.loop-i-test.false)) c.min-common.ensures) c.append_bounds.ensures in
