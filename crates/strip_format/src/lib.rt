@@ -3,8 +3,8 @@
 // is what was read.
 #![tactic(auto)]
 
-ghost use Rattle.std.specs.Prelude.{◌≡◌, ◌+◌, ◌*◌, ◌%◌, ◌^◌, ◌≤◌, ltb, length, true};
-ghost use Rattle.little_endian.specs.Words.{u64_at};
+ghost use Rattle.std.specs.Prelude.{◌≡◌, ◌+◌, ◌*◌, ◌%◌, ◌^◌, ◌≤◌, ◌<◌, ltb, length, true};
+ghost use Rattle.little_endian.specs.Words.{u16_at, u64_at};
 ghost use Rattle.strip_format.specs.Format as Format;
 ghost use Rattle.strip_format.specs.Kinds.{code, Decodes};
 ghost use Rattle.strip_format.specs.Finite.{AllFinite, FloatsFrom, FourFinite, near_bits, FourNear};
@@ -12,6 +12,10 @@ ghost use Rattle.strip_format.specs.Finite.{AllFinite, FloatsFrom, FourFinite, n
 use affine::Affine;
 use commands::{Cap, DrawCommand, Join, Stroke};
 use geometry::Rect;
+
+// The lengths of a RUN and of a GLYPH, which callers step over.
+pub const RUN_LENGTH: usize = 103;
+pub const GLYPH_LENGTH: usize = 45;
 
 // What a command is, by its byte.
 #[derive(Clone, Copy, Debug, PartialEq, Eq)]
@@ -58,8 +62,8 @@ impl Kind {
             Kind::Clip => 33,
             Kind::Fill => 97,
             Kind::Stroke => 124,
-            Kind::Run => 103,
-            Kind::Glyph => 45,
+            Kind::Run => RUN_LENGTH,
+            Kind::Glyph => GLYPH_LENGTH,
             Kind::Scene => 105,
         }
     }
@@ -93,7 +97,8 @@ fn all_finite<const N: usize>(s: &[u8], at: usize) -> bool
     true
 }
 
-// The N f64 from an offset on, whose bytes are all there and which were found to be finite: none is tested again.
+// The N f64 from an offset on, whose bytes are all there and which were found to be finite: none is tested again. A loop, here and in `floats_at`: what
+// `array::from_fn` asks of its closure it asks for any values captured, and so the bytes that the closure reads could not be shown to be there.
 fn floats_finite<const N: usize>(s: &[u8], at: usize) -> [f64; N]
     requires { (at + 8 * N ≤ length s.now) × AllFinite s.now at N }
     ensures { FloatsFrom s.now at N result }
@@ -119,8 +124,7 @@ fn floats_inside<const N: usize>(s: &[u8], at: usize) -> [f64; N]
 pub fn rect_at(s: &[u8], at: usize) -> Rect
     ensures { result ≡ Format.rect_at s.now at }
 {
-    let [x0, y0, x1, y1] = floats_at::<4>(s, at);
-    Rect { x0, y0, x1, y1 }
+    Rect::from(floats_at(s, at))
 }
 
 // A box whose bytes are all there and whose floats were found to be finite: none is tested again.
@@ -128,8 +132,7 @@ pub fn rect_finite(s: &[u8], at: usize) -> Rect
     requires { (at + 32 ≤ length s.now) × FourFinite s.now at }
     ensures { result ≡ Format.rect_at s.now at }
 {
-    let [x0, y0, x1, y1] = floats_finite::<4>(s, at);
-    Rect { x0, y0, x1, y1 }
+    Rect::from(floats_finite(s, at))
 }
 
 // A box whose bytes are all there.
@@ -137,15 +140,13 @@ pub fn rect_inside(s: &[u8], at: usize) -> Rect
     requires { at + 32 ≤ length s.now }
     ensures { result ≡ Format.rect_at s.now at }
 {
-    let [x0, y0, x1, y1] = floats_inside::<4>(s, at);
-    Rect { x0, y0, x1, y1 }
+    Rect::from(floats_inside(s, at))
 }
 
 pub fn affine_at(s: &[u8], at: usize) -> Affine
     ensures { result ≡ Format.affine_at s.now at }
 {
-    let [a, b, c, d, e, f] = floats_at::<6>(s, at);
-    Affine { a, b, c, d, e, f }
+    Affine::from(floats_at(s, at))
 }
 
 // An affine whose bytes are all there and whose floats were found to be finite.
@@ -153,8 +154,7 @@ pub fn affine_finite(s: &[u8], at: usize) -> Affine
     requires { (at + 48 ≤ length s.now) × FourFinite s.now at × FourFinite s.now (at + 16) }
     ensures { result ≡ Format.affine_at s.now at }
 {
-    let [a, b, c, d, e, f] = floats_finite::<6>(s, at);
-    Affine { a, b, c, d, e, f }
+    Affine::from(floats_finite(s, at))
 }
 
 // An affine whose bytes are all there.
@@ -162,8 +162,7 @@ pub fn affine_inside(s: &[u8], at: usize) -> Affine
     requires { at + 48 ≤ length s.now }
     ensures { result ≡ Format.affine_at s.now at }
 {
-    let [a, b, c, d, e, f] = floats_inside::<6>(s, at);
-    Affine { a, b, c, d, e, f }
+    Affine::from(floats_inside(s, at))
 }
 
 // Whether the f64 at an offset is below 2^500 in size, by its exponent.
@@ -254,6 +253,14 @@ fn stroke_path_at(s: &[u8], at: usize) -> DrawCommand
     }
 }
 
+// How many glyphs the RUN at an offset announces.
+pub fn glyph_count_at(s: &[u8], at: usize) -> u16
+    requires { at + 101 < 2 ^ 64 }
+    ensures { result ≡ u16_at s.now (at + 101) }
+{
+    little_endian::u16_at(s, at + 101)
+}
+
 fn run_at(s: &[u8], at: usize) -> DrawCommand
     requires { at + 103 ≤ length s.now }
     ensures { result ≡ Format.run_at s.now at }
@@ -264,7 +271,7 @@ fn run_at(s: &[u8], at: usize) -> DrawCommand
         transform: affine_inside(s, at + 13),
         brush: little_endian::u64_at(s, at + 61),
         bounds: rect_inside(s, at + 69),
-        glyphs: little_endian::u16_at(s, at + 101) as u32,
+        glyphs: u32::from(glyph_count_at(s, at)),
     }
 }
 
