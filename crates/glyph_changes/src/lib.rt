@@ -11,7 +11,7 @@ ghost use Rattle.glyph_changes.specs.Runs.{glyphs_of, Inside, most_boxes, window
 use affine::Affine;
 use geometry::Rect;
 use rect_list::RectList;
-use strip_format::rect_inside;
+use strip_format::{GLYPH_LENGTH, rect_inside};
 
 // A run's glyphs: where the bytes of the first one begin, how many there are, and the transform and the clip
 // number that bring them to the window.
@@ -40,7 +40,7 @@ fn equal_at(s: &[u8], p: usize, q: usize) -> bool
     requires { (p + 45 ≤ length s.now) × (q + 45 ≤ length s.now) }
     ensures { result ≡ equal_glyph (glyph_at s.now p) (glyph_at s.now q) }
 {
-    little_endian::same_bytes(s, p, q, 45)
+    little_endian::same_bytes(s, p, q, GLYPH_LENGTH)
         || (glyph_eq(s, p, q) && rect_inside(s, p + 13).same_edges(rect_inside(s, q + 13)))
 }
 
@@ -54,7 +54,11 @@ pub fn equal_glyphs(s: &[u8], old: Run, new: Run) -> bool
     }
     // No `all`: tried, and the proof doesn't close, since its closure calls a function that asks something.
     for k in 0..old.count as usize {
-        if !equal_at(s, old.glyphs + 45 * k, new.glyphs + 45 * k) {
+        if !equal_at(
+            s,
+            old.glyphs + GLYPH_LENGTH * k,
+            new.glyphs + GLYPH_LENGTH * k,
+        ) {
             return false;
         }
     }
@@ -79,7 +83,7 @@ fn append_glyph_bounds(s: &[u8], boxes: &[f64], run: Run, first: usize, rects: &
     ensures { AddedTo (run.count - first) rects.old (boxes_by (windowed boxes.now run) (glyphs_from s.now (run.glyphs + 45 * first) (run.count - first))) rects.new }
 {
     for k in first..run.count as usize {
-        rects.push(window_at(s, boxes, run, run.glyphs + 45 * k));
+        rects.push(window_at(s, boxes, run, run.glyphs + GLYPH_LENGTH * k));
     }
 }
 
@@ -97,7 +101,7 @@ fn append_changed(
     requires { (8 * old.clip ≤ length boxes.now) × (8 * new.clip ≤ length boxes.now) × (at + 45 ≤ length s.now) × (other + 45 ≤ length s.now) × (rects.old.count + 1 < 2 ^ 63) }
     ensures { AddedTo 1 rects.old (changed_at (windowed boxes.now old) (windowed boxes.now new) (glyph_at s.now at) (glyph_at s.now other)) rects.new }
 {
-    if little_endian::same_bytes(s, at, other, 45) || glyph_eq(s, at, other) {
+    if little_endian::same_bytes(s, at, other, GLYPH_LENGTH) || glyph_eq(s, at, other) {
         return;
     }
     let b = window_at(s, boxes, old, at);
@@ -113,8 +117,8 @@ pub fn changed_glyph_bounds(s: &[u8], boxes: &[f64], old: Run, new: Run, rects: 
 {
     let common = old.count.min(new.count) as usize;
     for k in 0..common {
-        let p = old.glyphs + 45 * k;
-        let q = new.glyphs + 45 * k;
+        let p = old.glyphs + GLYPH_LENGTH * k;
+        let q = new.glyphs + GLYPH_LENGTH * k;
         append_changed(s, boxes, old, new, p, q, rects);
     }
     append_glyph_bounds(s, boxes, old, common, rects);

@@ -3,12 +3,14 @@
 use mathlib.Core.Path.{◌≡◌, refl, sym, ap, subst, ◌∙◌}
 use mathlib.Core.Bool.{Bool, true, false, ◌&&◌, true≢false}
 use mathlib.Core.List.{List, [], ◌∷◌}
-use Prim.Native.Nat.{ℕ, ◌+◌}
+use Prim.Native.Nat.{ℕ, ◌+◌, ◌<◌}
 use native.Mathlib.Omega.{arith}
 use lib.Dec.{leb, eqb}
 use lib.ListN.{length, get_or}
 use lib.Ieee.{Float, binary32, to_bits}
 use lib.Ieee.Fits.{and_l, and_r}
+use borrow.Author.Tests.{ne_eqb}
+use Rattle.std.specs.Prelude.{Some}
 use Rattle.lists.specs.Pick.{pick}
 use Rattle.lists.proofs.Bools.{is_true, holds, and_off, and_true}
 use Rattle.lists.proofs.Picks.{pick_false, pick_cases}
@@ -27,7 +29,7 @@ use Rattle.equality.specs.Drawings.{same_drawing, equal, fills_alike, runs_alike
 use Rattle.clips.specs.Chains.{chain}
 use Rattle.display_list.specs.Lists.{offset_at, clip_number_at, box_at}
 use Rattle.strip_format.specs.Format.{length_of, affine_at, run_at, command_at}
-use Rattle.strip_format.proofs.Lengths.{length_run}
+use Rattle.strip_format.proofs.Lengths.{length_run, length_unknown}
 use Rattle.strip_format.proofs.Numbers.{single_finite, entry_numbers}
 use Rattle.strip_laws.proofs.Alike.{command_twice}
 use Rattle.strip_format.specs.declared.Kind.TheVariants.{Run as RunKind}
@@ -38,7 +40,7 @@ use Rattle.stored_lists.specs.Stored.{command_in}
 use Rattle.glyph_changes.specs.declared.Run.{Run}
 use Rattle.glyph_changes.specs.Runs.{glyphs_of, Inside, windowed, changed_at, changed_by, boxes_by}
 use Rattle.runtime.specs.declared.PlacedCommand.{PlacedCommand}
-use Rattle.runtime.specs.Placed.{Both, placed_at, stands_for, Pair, apart, SameRun, RunPair}
+use Rattle.runtime.specs.Placed.{Both, placed_at, stands_for, whole_length, Pair, apart, SameRun, RunPair}
 use Rattle.runtime.specs.Placed as Placed
 use Rattle.runtime.proofs.Pairs.{pair_of, changed_are, case_equal, case_runs}
 
@@ -80,6 +82,11 @@ case_apart i j s bs ns is ibs w v e =
     let z = told s p (offset_at is j) (sym v ∙ e) in
     (λ k. union (w.stored.boxed i w.old k) (w.stored.boxed j w.new k) ∷ [])
     ∙ sym (pick_false _ _ _ (sym (and_off _ _ (sym (and_off _ _ z.1)))) ∙ pick_false _ _ _ (fills_off (command_at s p) d z.1) ∙ pick_false _ _ _ (sym (and_off _ _ (runs_off s p d z.0))))
+
+-- ---- a byte that is no command's
+pub whole_unknown : (s : List ℕ) (at : ℕ) → 7 < get_or s at 0 → whole_length s at ≡ 1
+unfolding whole_length
+whole_unknown s at h = pick_false _ _ _ (ne_eqb (get_or s at 0) 5 (λ e. omega arith)) ∙ length_unknown (get_or s at 0) h
 
 -- ---- a run that stands twice
 abbrev Alike : DrawCommand → DrawCommand → Type 0

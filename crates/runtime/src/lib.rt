@@ -23,7 +23,7 @@ use commands::DrawCommand;
 use geometry::Rect;
 use glyph_changes::Run;
 use rect_list::RectList;
-use strip_format::Kind;
+use strip_format::{GLYPH_LENGTH, Kind, RUN_LENGTH};
 
 // The counts that dew keeps of a frame, as far as a plan tells them.
 #[derive(Clone, Copy, Debug, PartialEq, Eq)]
@@ -90,7 +90,7 @@ fn same_run(s: &[u8], at: usize, other: usize) -> bool
 {
     command_bounds::kind_at(s, at) == Some(Kind::Run)
         && command_bounds::kind_at(s, other) == Some(Kind::Run)
-        && little_endian::same_bytes(s, at, other, Kind::Run.length())
+        && little_endian::same_bytes(s, at, other, RUN_LENGTH)
 }
 
 // The length of the command at an offset, with its glyphs.
@@ -99,15 +99,11 @@ fn whole_length(s: &[u8], at: usize) -> usize
     requires { at < length s.now }
     ensures { result ≡ whole_length s.now at }
 {
-    let Ok(kind) = Kind::try_from(s[at]) else {
-        return 1;
-    };
-    match kind {
-        Kind::Run => {
-            let count = little_endian::u16_at(s, at + 101) as usize;
-            Kind::Run.length() + Kind::Glyph.length() * count
-        }
-        _ => kind.length(),
+    match Kind::try_from(s[at]) {
+        Ok(Kind::Run) => RUN_LENGTH
+            + GLYPH_LENGTH * usize::from(strip_format::glyph_count_at(s, at)),
+        Ok(kind) => kind.length(),
+        Err(_) => 1,
     }
 }
 
@@ -164,7 +160,7 @@ impl ListSpace<'_> {
         PlacedCommand {
             command,
             run: Run {
-                glyphs: at + 103,
+                glyphs: at + RUN_LENGTH,
                 count: glyph_count(command),
                 transform: command.transform(),
                 clip: self.clip_number_at(i),
@@ -237,15 +233,15 @@ impl ListSpace<'_> {
         let at = self.offset_at(i);
         let other = self.offset_at(j);
         let transform = command_bounds::transform_at(self.bytes, at);
-        let count = little_endian::u16_at(self.bytes, at + 101) as u32;
+        let count = u32::from(strip_format::glyph_count_at(self.bytes, at));
         let run = Run {
-            glyphs: at + 103,
+            glyphs: at + RUN_LENGTH,
             count,
             transform,
             clip: self.clip_number_at(i),
         };
         let other_run = Run {
-            glyphs: other + 103,
+            glyphs: other + RUN_LENGTH,
             count,
             transform,
             clip: self.clip_number_at(j),
