@@ -22,7 +22,7 @@ ghost use Rattle.runtime.specs.Work.{work_of};
 use commands::DrawCommand;
 use geometry::Rect;
 use glyph_changes::Run;
-use strip_format::Kind;
+use strip_format::{GLYPH_LENGTH, Kind, RUN_LENGTH};
 
 // The counts that dew keeps of a frame, as far as a plan tells them.
 #[derive(Clone, Copy)]
@@ -89,7 +89,7 @@ fn same_run(s: &[u8], at: usize, other: usize) -> bool
 {
     command_bounds::kind_at(s, at) == Some(Kind::Run)
         && command_bounds::kind_at(s, other) == Some(Kind::Run)
-        && little_endian::same_bytes(s, at, other, Kind::Run.length())
+        && little_endian::same_bytes(s, at, other, RUN_LENGTH)
 }
 
 // The length of the command at an offset, with its glyphs.
@@ -103,8 +103,7 @@ fn whole_length(s: &[u8], at: usize) -> usize
     };
     match kind {
         Kind::Run => {
-            let count = little_endian::u16_at(s, at + 101) as usize;
-            Kind::Run.length() + Kind::Glyph.length() * count
+            RUN_LENGTH + GLYPH_LENGTH * usize::from(strip_format::glyph_count_at(s, at))
         }
         _ => kind.length(),
     }
@@ -143,7 +142,7 @@ impl ListSpace<'_> {
         PlacedCommand {
             command,
             run: Run {
-                glyphs: at + 103,
+                glyphs: at + RUN_LENGTH,
                 count: glyph_count(command),
                 transform: command.transform(),
                 clip: self.items[2 * i + 1],
@@ -226,15 +225,15 @@ impl ListSpace<'_> {
         let at = self.items[2 * i] as usize;
         let other = self.items[2 * j] as usize;
         let transform = command_bounds::transform_at(self.bytes, at);
-        let count = little_endian::u16_at(self.bytes, at + 101) as u32;
+        let count = u32::from(strip_format::glyph_count_at(self.bytes, at));
         let run = Run {
-            glyphs: at + 103,
+            glyphs: at + RUN_LENGTH,
             count,
             transform,
             clip: self.items[2 * i + 1],
         };
         let other_run = Run {
-            glyphs: other + 103,
+            glyphs: other + RUN_LENGTH,
             count,
             transform,
             clip: self.items[2 * j + 1],
