@@ -32,6 +32,7 @@ use Rattle.strip_format.specs.Format.{length_of, affine_at, run_at, command_at}
 use Rattle.strip_format.proofs.Lengths.{length_run, length_unknown}
 use Rattle.strip_format.proofs.Numbers.{single_finite, entry_numbers}
 use Rattle.strip_laws.proofs.Alike.{command_twice}
+use Rattle.std.specs.Prelude.{Some}
 use Rattle.strip_format.specs.declared.Kind.TheVariants.{Run as RunKind}
 use Rattle.command_bounds.specs.Kinds.{kind_at}
 use Rattle.command_bounds.proofs.Standing.{stands, is_run}

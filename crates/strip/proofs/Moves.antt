@@ -1,6 +1,7 @@
 -- A step that goes on passes a byte and stays within the strip, so reading ends; and what is left to read decides as the whole does. Assumes nothing.
 use mathlib.Core.Path.{◌≡◌, refl, sym, ap, ◌∙◌, subst}
 use mathlib.Core.Bool.{true, false}
+use mathlib.Core.Logic.{◌⊎◌, inl, inr}
 use mathlib.Core.List.{List}
 use Prim.Native.Nat.{ℕ, zero, suc, ◌+◌, ◌-◌, ◌≤◌, ◌<◌}
 use native.Mathlib.Omega.{arith}
@@ -126,17 +127,24 @@ module _ (s : List ℕ) (at : ℕ) (st : Cursor) (r : Result Step Refusal) (rest
   moved : (x : Result Step Refusal) → r ≡ x → Moved (length s) st x
   moved x q = subst (Moved (length s) st) (sym p ∙ q) (step_moves s st)
 
-  pub on_next_lem : (t : Cursor) → r ≡ Ok (Next t) → (length s - t.at < length s - st.at) × Rest s at t
+  on_next_lem : (t : Cursor) → r ≡ Ok (Next t) → (length s - t.at < length s - st.at) × Rest s at t
   on_next_lem t q = advance t (moved (Ok (Next t)) q) (λ k. ap (λ x. on_step x k) q)
 
-  pub on_clip : (t : Cursor) (box : Rect) → r ≡ Ok (Clip t box) → (length s - t.at < length s - st.at) × Rest s at t
+  on_clip : (t : Cursor) (box : Rect) → r ≡ Ok (Clip t box) → (length s - t.at < length s - st.at) × Rest s at t
   on_clip t box q = advance t (moved (Ok (Clip t box)) q) (λ k. ap (λ x. on_step x k) q)
 
-  pub on_pop : (t : Cursor) → r ≡ Ok (Pop t) → (length s - t.at < length s - st.at) × Rest s at t
+  on_pop : (t : Cursor) → r ≡ Ok (Pop t) → (length s - t.at < length s - st.at) × Rest s at t
   on_pop t q = advance t (moved (Ok (Pop t)) q) (λ k. ap (λ x. on_step x k) q)
 
-  pub on_draw : (t : Cursor) (from : ℕ) (box : Rect) → r ≡ Ok (Draw t from box) → (length s - t.at < length s - st.at) × Rest s at t
+  on_draw : (t : Cursor) (from : ℕ) (box : Rect) → r ≡ Ok (Draw t from box) → (length s - t.at < length s - st.at) × Rest s at t
   on_draw t from box q = advance t (moved (Ok (Draw t from box)) q) (λ k. ap (λ x. on_step x k) q)
+
+  -- each of the four
+  pub on_moved : (t : Cursor) (step : Step) → r ≡ Ok step → (step ≡ Next t) ⊎ (((box : Rect) × (step ≡ Clip t box)) ⊎ ((step ≡ Pop t) ⊎ ((from : ℕ) × (box : Rect) × (step ≡ Draw t from box)))) → (length s - t.at < length s - st.at) × Rest s at t
+  on_moved t step q (inl e) = on_next_lem t (q ∙ ap Ok e)
+  on_moved t step q (inr (inl (box, e))) = on_clip t box (q ∙ ap Ok e)
+  on_moved t step q (inr (inr (inl e))) = on_pop t (q ∙ ap Ok e)
+  on_moved t step q (inr (inr (inr (from, box, e)))) = on_draw t from box (q ∙ ap Ok e)
 
   pub on_end : (t : Cursor) → r ≡ Ok (End t) → Ok t ≡ read_strip s at
   unfolding read_from

@@ -7,6 +7,7 @@ use native.Mathlib.Omega.{arith}
 use borrow.Author.Tests.{lt-ltb, eq-eqb, ne_eqb}
 use lib.Dec.{leb, eqb}
 use Rattle.refusals.specs.declared.Fault.TheVariants.{TooMany, BoxNotFinite}
+use Rattle.refusals.specs.declared.Refusal.{Refusal}
 use Rattle.refusals.specs.Table.{refused}
 use Rattle.lists.specs.Pick.{pick}
 use Rattle.lists.proofs.Picks.{pick_true, pick_false, pick_map}
@@ -21,11 +22,12 @@ use Rattle.operand_checks.specs.Operands.{finite_glyph, operands_at}
 use Rattle.strip.specs.declared.Cursor.{Cursor}
 use Rattle.strip.specs.declared.Effect.{Effect}
 use Rattle.strip.specs.declared.Effect.TheVariants.{Drawn, Done}
+use Rattle.strip.specs.declared.Step.{Step}
 use Rattle.strip.specs.declared.Step.TheVariants.{Next, Draw}
-use Rattle.strip.specs.Steps.{due_fits, on_box, drawn, draw_step, glyph_read, last_step, glyph_step, step_at}
-use Rattle.strip.specs.Effects.{settle, settled, draw_effect, last_effect, OwnBounds, GoesOn, Moves, Passes}
+use Rattle.strip.specs.Steps.{due_fits, on_box, drawn, announce, draw_step, glyph_read, last_step, glyph_step, step_at}
+use Rattle.strip.specs.Effects.{settle, settled, drawn_or_many, last_effect, OwnBounds, GoesOn, Moves, Passes}
 use Rattle.strip.proofs.Effects.{glyph_box, glyph_not_finite, effect_glyph, step_effect}
-use Rattle.std.specs.Prelude.{Option, Some, None, Ok}
+use Rattle.std.specs.Prelude.{Option, Some, None, Result, Ok, Err}
 
 -- ---- an effect that was taken apart
 module _ (e : Effect) (t : Cursor) (o at : ℕ) (m : Affine) (b : Rect) (r : Option Rect) (p : e ≡ Drawn t o at m b) (q : r ≡ try_transform m b) where
@@ -48,11 +50,25 @@ module _ (st : Cursor) (m : Affine) (b : Rect) where
 module _ (s : List ℕ) where
   module _ (st : Cursor) where
     module _ (m : Affine) (b : Rect) (e : m ≡ transform_of (command_at s st.at)) (f : OwnBounds s st.at b) where
-      pub draw_settles : (len : ℕ) → settled (draw_effect st m b len) ≡ draw_step s st len
+      -- what is drawn once the cursor is past the command, or is turned away
+      abbrev pub to_effect : Result Cursor Refusal → Result Effect Refusal
+      to_effect (Ok next) = Ok (Drawn next st.at st.at m b)
+      to_effect (Err r) = Err r
+
+      pub draw_settles : (len : ℕ) (r : Result Cursor Refusal) → r ≡ drawn_or_many st len 0 → settled (to_effect r) ≡ draw_step s st len
       unfolding draw_step
-      draw_settles len =
-          pick_map settled (leb 4096 st.commands) (refused TooMany st.at) (Ok (Drawn (drawn st len 0) st.at st.at m b))
+      draw_settles len r g =
+          ap (λ x. settled (to_effect x)) g
+          ∙ pick_map (λ x. settled (to_effect x)) (leb 4096 st.commands) (refused TooMany st.at) (Ok (drawn st len 0))
           ∙ (λ i. pick (leb 4096 st.commands) (refused TooMany st.at) (on_box st.at (try_transform (e i) (f st.united i)) (λ box. Ok (Draw (drawn st len 0) st.at box))))
+
+    -- a RUN that announces glyphs only moves the cursor
+    abbrev pub to_next : Result Cursor Refusal → Result Step Refusal
+    to_next (Ok next) = Ok (Next next)
+    to_next (Err r) = Err r
+
+    pub run_settles : (due : ℕ) (r : Result Cursor Refusal) → r ≡ drawn_or_many st 103 due → to_next r ≡ announce st due
+    run_settles due r g = ap to_next g ∙ pick_map to_next (leb 4096 st.commands) (refused TooMany st.at) (Ok (drawn st 103 due))
 
     -- both, by the affine of the run
     module _ (m : Affine) (b : Rect) where

@@ -28,9 +28,9 @@ abbrev pub settled : Result Effect Refusal → Result Step Refusal
 settled (Ok effect) = settle effect
 settled (Err r) = Err r
 
--- a drawing command of this length that is whole, with its affine and its box
-abbrev pub draw_effect : Cursor → Affine → Rect → ℕ → Result Effect Refusal
-draw_effect st m box len = pick (leb 4096 st.commands) (refused TooMany st.at) (Ok (Drawn (drawn st len 0) st.at st.at m box))
+-- past a drawing command of this length, which announces so many glyphs
+abbrev pub drawn_or_many : Cursor → ℕ → ℕ → Result Cursor Refusal
+drawn_or_many st len due = pick (leb 4096 st.commands) (refused TooMany st.at) (Ok (drawn st len due))
 
 -- a glyph with this box, of a run with this affine: the run's last completes it
 unfoldable pub last_effect : Cursor → Affine → Rect → Effect

@@ -9,16 +9,25 @@ ghost use Rattle.strip_format.specs.Finite.{FourFinite};
 ghost use Rattle.strip.specs.Steps as Steps;
 ghost use Rattle.strip.specs.Reading as Reading;
 ghost use Rattle.strip.specs.Effects as Effects;
-ghost use Rattle.strip.specs.Effects.{settled, draw_effect, last_effect, Stands, DrawsAt, affine_offset, rect_offset, OwnBounds, GlyphDue, GoesOn, NearGoesOn, NearRun, Passes};
+ghost use Rattle.strip.specs.Effects.{settled, drawn_or_many, last_effect, Stands, DrawsAt, affine_offset, rect_offset, OwnBounds, GlyphDue, GoesOn, NearGoesOn, NearRun, Passes};
 
 use affine::Affine;
 use geometry::Rect;
 use refusals::{Fault, Refusal};
-use strip_format::Kind;
+use strip_format::{GLYPH_LENGTH, Kind, RUN_LENGTH};
 
 mod reader;
 
 pub use reader::{Reader, read_behind};
+
+// What a frame may have at most: clips open at once, clips, drawing commands and glyphs.
+const MOST_DEPTH: u64 = 32;
+
+const MOST_CLIPS: u64 = 4096;
+
+const MOST_COMMANDS: u64 = 4096;
+
+const MOST_GLYPHS: u64 = 16384;
 
 // Where reading stands: the offset, how many clips are open, what has been counted, how many glyphs are due of the run at
 // `run`, and the union of its glyph boxes so far.
@@ -50,7 +59,13 @@ pub enum Step {
 // transformed in one place, so that this is compiled into the loop that reads.
 #[derive(Clone, Copy)]
 enum Effect {
-    Drawn(Cursor, usize, usize, Affine, Rect),
+    Drawn {
+        next: Cursor,
+        offset: usize,
+        at: usize,
+        transform: Affine,
+        bounds: Rect,
+    },
     Done(Step),
 }
 
@@ -80,16 +95,13 @@ impl Cursor {
         ensures { result ≡ Steps.clip_step s.now self }
     {
         let at = self.at;
-        if 32 <= self.depth {
-            return Err(Fault::TooMany.at(at));
-        }
-        if 4096 <= self.clips {
+        if MOST_DEPTH <= self.depth || MOST_CLIPS <= self.clips {
             return Err(Fault::TooMany.at(at));
         }
         let bounds = strip_format::rect_finite(s, at + 1);
-        self.at = at + 33;
-        self.depth = self.depth + 1;
-        self.clips = self.clips + 1;
+        self.at += 33;
+        self.depth += 1;
+        self.clips += 1;
         Ok(Step::Clip(self, bounds))
     }
 
@@ -97,44 +109,28 @@ impl Cursor {
         requires { self.at + 1 < 2 ^ 64 }
         ensures { result ≡ Steps.pop_step self }
     {
-        let at = self.at;
         if self.depth == 0 {
-            return Err(Fault::NoOpenClip.at(at));
+            return Err(Fault::NoOpenClip.at(self.at));
         }
-        self.at = at + 1;
-        self.depth = self.depth - 1;
+        self.at += 1;
+        self.depth -= 1;
         Ok(Step::Pop(self))
     }
 
-    fn draw(mut self, transform: Affine, bounds: Rect, len: usize) -> Result<Effect, Refusal>
+    // Past a drawing command of this length that announces so many glyphs.
+    fn drawn(mut self, len: usize, due: u64) -> Result<Cursor, Refusal>
         requires { self.at + len < 2 ^ 64 }
-        ensures { result ≡ draw_effect self transform bounds len }
+        ensures { result ≡ drawn_or_many self len due }
     {
         let at = self.at;
-        if 4096 <= self.commands {
+        if MOST_COMMANDS <= self.commands {
             return Err(Fault::TooMany.at(at));
         }
-        self.at = at + len;
-        self.commands = self.commands + 1;
-        self.due = 0;
-        self.run = at;
-        Ok(Effect::Drawn(self, at, at, transform, bounds))
-    }
-
-    // A RUN that announces glyphs.
-    fn run(mut self, due: u64) -> Result<Step, Refusal>
-        requires { self.at + 103 < 2 ^ 64 }
-        ensures { result ≡ Steps.announce self due }
-    {
-        let at = self.at;
-        if 4096 <= self.commands {
-            return Err(Fault::TooMany.at(at));
-        }
-        self.at = at + 103;
-        self.commands = self.commands + 1;
+        self.at += len;
+        self.commands += 1;
         self.due = due;
         self.run = at;
-        Ok(Step::Next(self))
+        Ok(self)
     }
 
     // Any drawing command. One that announces no glyph is drawn, a RUN too: in one place, so that it is compiled into its caller.
@@ -147,25 +143,26 @@ impl Cursor {
         if due == 0 {
             let transform = drawn_transform(s, at, kind);
             let bounds = drawn_bounds(s, at, kind);
-            return self.draw(transform, bounds, kind.length());
+            let next = self.drawn(kind.length(), 0)?;
+            return Ok(Effect::Drawn {
+                next,
+                offset: at,
+                at,
+                transform,
+                bounds,
+            });
         }
-        Ok(Effect::Done(self.run(due)?))
+        Ok(Effect::Done(Step::Next(self.drawn(RUN_LENGTH, due)?)))
     }
 
     // The boxes of the run's glyphs up to this one, united. The first glyph stands right behind its RUN.
     fn unite(self, bounds: Rect) -> Rect
         ensures { result ≡ Steps.unite self bounds }
     {
-        let at = self.at;
-        let run = self.run;
-        let united = self.united;
-        if run <= at {
-            if at - run == 103 {
-                return bounds;
-            }
-            return united.union(bounds);
+        if self.run <= self.at && self.at - self.run == RUN_LENGTH {
+            return bounds;
         }
-        united.union(bounds)
+        self.united.union(bounds)
     }
 
     // Past a glyph with this box.
@@ -173,11 +170,10 @@ impl Cursor {
         requires { (self.at + 45 < 2 ^ 64) × (0 < self.due) × (self.glyphs < 16384) }
         ensures { result ≡ Steps.glyph_read self bounds }
     {
-        let united = self.unite(bounds);
-        self.at = self.at + 45;
-        self.glyphs = self.glyphs + 1;
-        self.due = self.due - 1;
-        self.united = united;
+        self.united = self.unite(bounds);
+        self.at += GLYPH_LENGTH;
+        self.glyphs += 1;
+        self.due -= 1;
         self
     }
 
@@ -186,13 +182,15 @@ impl Cursor {
         requires { (self.at + 45 < 2 ^ 64) × (0 < self.due) × (self.glyphs < 16384) }
         ensures { result ≡ last_effect self transform bounds }
     {
-        let at = self.at;
-        let run = self.run;
-        let due = self.due;
         let next = self.past_glyph(bounds);
-        let united = next.united;
-        if due == 1 {
-            Effect::Drawn(next, run, at, transform, united)
+        if self.due == 1 {
+            Effect::Drawn {
+                next,
+                offset: self.run,
+                at: self.at,
+                transform,
+                bounds: next.united,
+            }
         } else {
             Effect::Done(Step::Next(next))
         }
@@ -203,12 +201,11 @@ impl Cursor {
         ensures { settled result ≡ Steps.glyph_step s.now self }
     {
         let at = self.at;
-        let run = self.run;
-        if 16384 <= self.glyphs {
+        if MOST_GLYPHS <= self.glyphs {
             return Err(Fault::TooMany.at(at));
         }
         let bounds = strip_format::rect_finite(s, at + 13);
-        let transform = command_bounds::transform_at(s, run);
+        let transform = command_bounds::transform_at(s, self.run);
         if transform.finite_corners(bounds) {
             Ok(self.last(transform, bounds))
         } else {
@@ -259,8 +256,7 @@ fn drawn_bounds(s: &[u8], at: usize, kind: Kind) -> Rect
     let bounds = strip_format::rect_finite(s, rect_offset(at, kind));
     match kind {
         Kind::Stroke => {
-            let inflation =
-                commands::stroke_bounds_inflation(strip_format::stroke_at(s, at + 97));
+            let inflation = commands::stroke_bounds_inflation(strip_format::stroke_at(s, at + 97));
             bounds.inflate(inflation, inflation)
         }
         _ => bounds,
@@ -273,7 +269,7 @@ fn announced(s: &[u8], at: usize, kind: Kind) -> u64
     ensures { result ≡ Steps.announced s.now at (code kind) }
 {
     match kind {
-        Kind::Run => u64::from(little_endian::u16_at(s, at + 101)),
+        Kind::Run => u64::from(strip_format::glyph_count_at(s, at)),
         _ => 0,
     }
 }
@@ -296,7 +292,7 @@ fn effect_of(s: &[u8], st: Cursor, kind: Kind) -> Result<Effect, Refusal>
     match kind {
         Kind::End => {
             let mut end = st;
-            end.at = end.at + 1;
+            end.at += 1;
             Ok(Effect::Done(Step::End(end)))
         }
         Kind::Clip => Ok(Effect::Done(st.clip(s)?)),
@@ -314,11 +310,17 @@ fn settle(effect: Effect) -> Result<Step, Refusal>
     ensures { result ≡ Effects.settle effect }
 {
     match effect {
-        Effect::Drawn(next, offset, at, transform, bounds) => {
-            match transform.try_transform(bounds) {
-                Some(transformed) => Ok(Step::Draw(next, offset, transformed)),
-                None => Err(Fault::BoxNotFinite.at(at)),
-            }
+        Effect::Drawn {
+            next,
+            offset,
+            at,
+            transform,
+            bounds,
+        } => {
+            let transformed = transform
+                .try_transform(bounds)
+                .ok_or(Fault::BoxNotFinite.at(at))?;
+            Ok(Step::Draw(next, offset, transformed))
         }
         Effect::Done(step) => Ok(step),
     }
@@ -351,50 +353,29 @@ pub fn take_step(s: &[u8], st: Cursor) -> Result<Step, Refusal>
 fn glyph_due(s: &[u8], st: Cursor) -> bool
     ensures { result ≡ true → GlyphDue s.now st }
 {
-    let at = st.at;
-    let due = st.due;
-    if due < 2 {
-        return false;
+    match command_bounds::kind_at(s, st.at) {
+        Some(Kind::Glyph) => 2 <= st.due && st.glyphs < MOST_GLYPHS,
+        _ => false,
     }
-    if s.len() <= at {
-        return false;
-    }
-    if s.len() - at < 45 {
-        return false;
-    }
-    if s[at] != 6 {
-        return false;
-    }
-    st.glyphs < 16384
 }
 
 // True only where such a glyph passes, by the run's affine.
 fn glyph_goes_on(s: &[u8], st: Cursor, transform: Affine) -> bool
     ensures { result ≡ true → GoesOn s.now st transform }
 {
-    let at = st.at;
-    if glyph_due(s, st) {
-        if operand_checks::glyph_passes(s, at) {
-            let bounds = strip_format::rect_finite(s, at + 13);
-            return transform.finite_corners(bounds);
-        }
-    }
-    false
+    glyph_due(s, st)
+        && operand_checks::glyph_passes(s, st.at)
+        && transform.finite_corners(strip_format::rect_finite(s, st.at + 13))
 }
 
 // True only where the floats of such a glyph are finite, and those of its box below 2^500.
 fn near_goes_on(s: &[u8], st: Cursor) -> bool
     ensures { result ≡ true → NearGoesOn s.now st }
 {
-    let at = st.at;
-    if glyph_due(s, st) {
-        if little_endian::finite32_inside(s, at + 5) {
-            if little_endian::finite32_inside(s, at + 9) {
-                return strip_format::near_rect(s, at + 13);
-            }
-        }
-    }
-    false
+    glyph_due(s, st)
+        && little_endian::finite32_inside(s, st.at + 5)
+        && little_endian::finite32_inside(s, st.at + 9)
+        && strip_format::near_rect(s, st.at + 13)
 }
 
 // True only where a RUN stands at an offset whose affine's entries are below 2^500.
@@ -455,16 +436,7 @@ pub fn read_strip(s: &[u8], at: usize) -> Result<Cursor, Refusal>
     let mut st = Cursor::start(at);
     loop {
         match take_step(s, st)? {
-            Step::Next(t) => {
-                st = t;
-            }
-            Step::Clip(t, _) => {
-                st = t;
-            }
-            Step::Pop(t) => {
-                st = t;
-            }
-            Step::Draw(t, _, _) => {
+            Step::Next(t) | Step::Clip(t, _) | Step::Pop(t) | Step::Draw(t, _, _) => {
                 st = t;
             }
             Step::End(t) => {

@@ -1,20 +1,12 @@
--- `strip::glyph_due` meets its contract: each test in turn. Assumes nothing.
+-- `strip::glyph_due` meets its contract: a GLYPH stands whole there, and the counts let it pass. Assumes nothing.
+use Rattle.std.specs.Prelude.{Some}
+use Rattle.strip_format.specs.declared.Kind.TheVariants.{Glyph}
+use Rattle.strip_format.specs.Format.{length_of}
+use Rattle.command_bounds.proofs.Standing.{stands}
 use borrow.Author.Tests.{ltb-true}
-use native.Mathlib.Omega.{arith}
-use mathlib.Core.Bool.{false≢true}
+use mathlib.Core.Path.{sym, ap, ◌∙◌}
 use Rattle.strip.proofs.glyph_due.Goals as goal
 
-pub returns-then-due-lt2 : goal.returns-then-due-lt2
-returns-then-due-lt2 c = λ e. absurd (false≢true e)
-
-pub returns-then-s-at : goal.returns-then-s-at
-returns-then-s-at c = λ e. absurd (false≢true e)
-
-pub returns-then-s-at-lt45 : goal.returns-then-s-at-lt45
-returns-then-s-at-lt45 c = λ e. absurd (false≢true e)
-
-pub returns-then-s-at-ne6 : goal.returns-then-s-at-ne6
-returns-then-s-at-ne6 c = λ e. absurd (false≢true e)
-
-pub returns : goal.returns
-returns c = λ e. record { more = c.if-due-lt2.false; room = omega (arith, c.if-s-at.false, c.if-s-at-lt45.false); byte = c.if-s-at-ne6.false; count = ltb-true _ _ e }
+pub returns-then-st-ge2 : goal.returns-then-st-ge2
+unfolding length_of
+returns-then-st-ge2 c = let w = stands _ _ Glyph (sym c.kind_at.ensures ∙ c.in-Some-Glyph.is ∙ ap Some c.in-Some-Glyph.field-0-is) in λ e. record { more = c.if-st-ge2.true; room = w.1; byte = w.0; count = ltb-true _ _ e }
