@@ -122,11 +122,10 @@ module _ (z : Lent) (o : Outcome) (r : Result Plan Refusal) (a : r ≡ answer_of
 -- the rooms that a call works out are the space lent
 module _ (rs drs : List Float) (work spare gs dgs ws dws : List ℕ) (R G W : ℕ) (rect_room : R ≡ min (min (length rs / 4) (length drs / 4)) (min (length work) (length spare))) (region_room : G ≡ min (length gs / 4) (length dgs / 4)) (word_room : W ≡ min (length ws) (length dws)) where
   -- and the scratch of the draft is as long as they say
-  pub roomy : Roomy drs work spare dgs dws R G W
+  pub roomy : Roomy drs work dgs dws R G W
   roomy = record {
     rect_room = omega (arith, rect_room);
     work_room = omega (arith, rect_room);
-    spare_room = omega (arith, rect_room);
     region_room = omega (arith, region_room);
     word_room = omega (arith, word_room);
   }
