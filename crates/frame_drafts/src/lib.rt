@@ -123,9 +123,7 @@ fn list_next(
     }
     let first = old.commands as usize;
     let commands = new.commands as usize;
-    let changed = runtime::diff_dirty(
-        s, boxes, below, items, item_boxes, first, commands, rects,
-    );
+    let changed = runtime::diff_dirty(s, boxes, below, items, item_boxes, first, commands, rects);
     Ok(Changed {
         first,
         commands,
