@@ -59,8 +59,8 @@ pub fn draft(
     if room.rects < n {
         return Err(Fault::NoRoom.at(0));
     }
-    let totals = scheduler::schedule(&rects[..4 * n], screen, work, regions)
-        .ok_or(Fault::NoRoom.at(0))?;
+    let scheduled = scheduler::schedule(&rects[..4 * n], screen, work, regions);
+    let totals = scheduled.ok_or(Fault::NoRoom.at(0))?;
     if room.regions < totals.regions {
         return Err(Fault::NoRoom.at(0));
     }

@@ -3,12 +3,8 @@ use Rattle.std.specs.Prelude.{Result, Ok, Err}
 use Rattle.refusals.specs.declared.Fault.TheVariants.{NoRoom}
 use Rattle.refusals.specs.declared.Refusal.{Refusal}
 use Rattle.refusals.specs.Table.{refused}
-use Rattle.std.proofs.Common.{◌≡◌, ℕ, ◌+◌, ◌-◌, ◌*◌, ◌<◌, ◌≤◌, Bool, true, false, ◌&&◌, eqb, ltb, leb, List, [], ◌∷◌, map, length, take, drop, length-drop, ◌/◌, sym, refl, ap, ◌∙◌, subst, arith, w64, Fits, leb-true}
+use Rattle.std.proofs.Common.{◌≡◌, ℕ, ◌+◌, ◌-◌, ◌*◌, ◌≤◌, Bool, true, false, ltb, List, [], ◌∷◌, map, length, take, drop, length-drop, ◌/◌, sym, refl, ap, ◌∙◌, subst, arith, w64, Fits}
 use lib.Ieee.{Float, binary64, of_bits, of_int}
-use lib.Ieee.Fits.{and_l, and_r}
-use borrow.Author.Tests.{eqb-false}
-use Rattle.lists.specs.Pick.{pick}
-use Rattle.lists.proofs.Bools.{holds, is_true}
 use Rattle.lists.proofs.Picks.{pick_cases}
 use Rattle.floats.specs.Whole.{whole}
 use Rattle.geometry.specs.declared.Rect.{Rect}
@@ -16,7 +12,6 @@ use Rattle.rect_list.specs.Rects.{Added, Listed}
 use Rattle.rect_list.proofs.Appends.{listed}
 use Rattle.scheduler.specs.Schedule.{Sizes}
 use Rattle.changes.specs.Changes.{diff_dirty}
-use Rattle.little_endian.specs.Words.{u32_at}
 use Rattle.strip.specs.declared.Cursor.{Cursor}
 use Rattle.strip.specs.Reading.{commands_of}
 use Rattle.strip_laws.specs.Limits.{Within}

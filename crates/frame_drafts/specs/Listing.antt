@@ -7,7 +7,6 @@ use Rattle.commands.specs.Bounds.{Command, bounds}
 use Rattle.rect_list.specs.Rects.{Listed}
 use Rattle.recording.specs.Recorded.{Space}
 use Rattle.band_index.specs.Boxes.{boxes_of}
-use Rattle.plans.specs.declared.Plan.{Plan}
 use Rattle.plans.specs.Drafts.{Items, Outcome, draft, drafted}
 use Rattle.plans.specs.Answers.{items_fit, answer_of}
 use Rattle.frame_drafts.specs.declared.Changed.{Changed}

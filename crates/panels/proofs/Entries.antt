@@ -5,9 +5,9 @@ use mathlib.Core.List.{List, ◌++◌, map, append_assoc}
 use mathlib.Core.Option.{Option, none, some}
 use Prim.Native.Nat.{ℕ, ◌+◌, ◌≤◌, ◌<◌}
 use native.Mathlib.Omega.{arith}
-use lib.Dec.{leb, ltb, eqb}
+use lib.Dec.{ltb}
 use lib.ListN.{length, drop, get_or, length-append, get_or-append}
-use borrow.Author.Tests.{le-ltb, ltb-false, leb-true, eqb-false}
+use borrow.Author.Tests.{le-ltb, ltb-false}
 use Rattle.refusals.specs.Table.{refusal}
 use Rattle.std.specs.Prelude.{Result, Ok, Err}
 use Rattle.refusals.specs.declared.Fault.TheVariants.{Size, TrailingByte}
@@ -25,6 +25,7 @@ use Rattle.changes.specs.Changes.{diff_dirty}
 use Rattle.strip.specs.declared.Cursor.{Cursor}
 use Rattle.strip.specs.Reading.{read_strip, commands_of}
 use Rattle.screen.specs.Sizes.{size_fits}
+use Rattle.screen.proofs.Laws.{size_of}
 use Rattle.frame.specs.Frame.{header_of, ended, with_old, then_new, then_end, first_of, both_of}
 use Rattle.frame.proofs.Checks.{both_next}
 use Rattle.plans.specs.declared.Plan.{Plan}
@@ -37,19 +38,11 @@ use Rattle.panels.proofs.Panels.{plans_agree}
 use Rattle.panels.proofs.Strips.{OneStrip, strip_sound, ends_there, as_alone, one_strip, old_read, old_list}
 
 -- ---- the sizes
-size_within : (n : ℕ) → size_fits n ≡ true → (0 < n) × (n ≤ 32768)
-unfolding size_fits
-size_within n e = go (eqb n 0) refl e
-  where
-    go : (t : Bool) → eqb n 0 ≡ t → pick t false (leb n 32768) ≡ true → (0 < n) × (n ≤ 32768)
-    go true z f = absurd (true≢false (sym f))
-    go false z f = (let k = eqb-false n 0 z in omega arith, leb-true n 32768 f)
-
 sizes_fit : (w h b : ℕ) → size_fits w ≡ true → size_fits h ≡ true → size_fits b ≡ true → Sizes w h b
 sizes_fit w h b e f g =
-    let x = size_within w e in
-    let y = size_within h f in
-    let z = size_within b g in
+    let x = size_of w e in
+    let y = size_of h f in
+    let z = size_of b g in
     record { some_width = x.0; width_most = x.1; some_height = y.0; height_most = y.1; some_band = z.0; band_most = z.1 }
 
 module _ (header : List ℕ) (twelve : length header ≡ 12) where

@@ -1,4 +1,3 @@
-use mathlib.Core.Path.{◌≡◌}
 use Rattle.frame_drafts.proofs.Inputs.{zero_whole}
 use Rattle.frame_drafts.proofs.screen_rect.Goals as goal
 

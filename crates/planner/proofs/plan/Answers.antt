@@ -4,7 +4,7 @@ use Rattle.frame_drafts.specs.Scratch.{outcome}
 use Rattle.planner.proofs.plan.Goals as goal
 
 pub publish-requires : goal.publish-requires
-publish-requires c = copies c.args.rects.now c.args.draft_rects.now c.args.work.now c.args.spare.now c.args.regions.now c.args.draft_regions.now c.args.words.now c.args.draft_words.now _ _ _ c.rect_room-rect_room.ensures c.min-region_room.ensures c.min-word_room.ensures c.args.boxes.now c.args.below.now c.args.items.now c.args.item_boxes.now c.args.glyph_items.now (outcome c.args.entry c.args.input.now) _ c.draft_frame-plan.ensures.answer _ _ _ c.draft_frame-plan.auto.rects c.draft_frame-plan.auto.regions c.draft_frame-plan.auto.words
+publish-requires c = copies c.args.rects.now c.args.draft_rects.now c.args.work.now c.args.spare.now c.args.regions.now c.args.draft_regions.now c.args.words.now c.args.draft_words.now _ _ _ c.rect_room.ensures c.min.ensures c.min-2.ensures c.args.boxes.now c.args.below.now c.args.items.now c.args.item_boxes.now c.args.glyph_items.now (outcome c.args.entry c.args.input.now) _ c.draft_frame-plan.ensures.answer _ _ _ c.draft_frame-plan.auto.rects c.draft_frame-plan.auto.regions c.draft_frame-plan.auto.words
 
 pub returns-clause-rectangles : goal.returns-clause-rectangles
 returns-clause-rectangles c = c.publish.ensures.rectangles ∙ (publishes _ (outcome c.args.entry c.args.input.now) _ c.draft_frame-plan.ensures.answer c.draft_frame-plan.new.rects c.draft_frame-plan.new.regions c.draft_frame-plan.new.words c.draft_frame-plan.ensures.stands c.args.rects.now c.args.regions.now c.args.words.now).0

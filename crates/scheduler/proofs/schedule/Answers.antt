@@ -18,8 +18,7 @@ returns-then-room-count c =
 pub put_band-pixels-requires : goal.put_band-pixels-requires
 put_band-pixels-requires c =
     let l = c.loop-j.invariant in
-    let n = banded (omega (arith, c.loop-j-test.true, l.0)) (omega (arith, c.requires.n_in_bounds, l.1, c.schedule_band-m.ensures.0, c.schedule_band-m.auto)) _ c.band_at-band.ensures c.schedule_band-m.ensures.1 in
-    (
+    let n = banded (omega (arith, c.loop-j-test.true, l.0)) (omega (arith, c.requires.n_in_bounds, l.1, c.schedule_band-m.ensures.0, c.schedule_band-m.auto)) _ c.band_at-band.ensures c.schedule_band-m.ensures.1 in (
       omega (arith, m_few l.2 n, length-take-le c.schedule_band-m.result c.schedule_band-m.new.work n.source),
       omega (arith, l.2.room, l.2.same_length, c.if-room-count.false, length-take-le c.schedule_band-m.result c.schedule_band-m.new.work n.source, part_length c.loop-j.out (4 * c.loop-j.count)),
     )
@@ -33,6 +32,9 @@ overflow_add-pixels c =
 pub loop-j-preserved : goal.loop-j-preserved
 loop-j-preserved c =
     let l = c.loop-j.invariant in
-    let n = banded (omega (arith, c.loop-j-test.true, l.0)) (omega (arith, c.requires.n_in_bounds, l.1, c.schedule_band-m.ensures.0, c.schedule_band-m.auto)) _ c.band_at-band.ensures c.schedule_band-m.ensures.1 in
-    (l.0, c.schedule_band-m.auto.work ∙ l.1, going_next l.2 n c.if-room-count.false _ c.put_band-pixels.ensures.value _ (put_length c.loop-j.out (4 * c.loop-j.count) _ c.put_band-pixels.auto.out (omega (arith, l.2.room, l.2.same_length)))
-    (put_part c.loop-j.out _ _ c.loop-j.count c.schedule_band-m.result _ (length-take-le c.schedule_band-m.result c.schedule_band-m.new.work n.source) c.put_band-pixels.ensures.out_after))
+    let n = banded (omega (arith, c.loop-j-test.true, l.0)) (omega (arith, c.requires.n_in_bounds, l.1, c.schedule_band-m.ensures.0, c.schedule_band-m.auto)) _ c.band_at-band.ensures c.schedule_band-m.ensures.1 in (
+      l.0,
+      c.schedule_band-m.auto.work ∙ l.1,
+      going_next l.2 n c.if-room-count.false _ c.put_band-pixels.ensures.value _ (put_length c.loop-j.out (4 * c.loop-j.count) _ c.put_band-pixels.auto.out (omega (arith, l.2.room, l.2.same_length)))
+          (put_part c.loop-j.out _ _ c.loop-j.count c.schedule_band-m.result _ (length-take-le c.schedule_band-m.result c.schedule_band-m.new.work n.source) c.put_band-pixels.ensures.out_after),
+    )
