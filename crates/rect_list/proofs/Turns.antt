@@ -3,12 +3,11 @@ use mathlib.Core.Path.{◌≡◌, refl, sym, ap, subst, ◌∙◌}
 use mathlib.Core.List.{List, [], ◌++◌}
 use Prim.Native.Nat.{ℕ, ◌+◌, ◌≤◌}
 use native.Mathlib.Omega.{arith}
-use lib.ListN.{length}
 use lib.Ieee.{Float}
 use Rattle.geometry.specs.declared.Rect.{Rect}
-use Rattle.rect_list.specs.Rects.{Filled, filled, after, Added, AddedTo, Listed}
+use Rattle.rect_list.specs.Rects.{filled, after, Added, AddedTo, Listed}
 use Rattle.rect_list.specs.declared.RectList.{RectList}
-use Rattle.rect_list.proofs.Appends.{after_append, length_after, listed, added_both, added_none, added_as}
+use Rattle.rect_list.proofs.Appends.{after_append, listed, added_both, added_none, added_as}
 
 -- `whole` was to be appended to n boxes in xs; there are m in ys, and `rest` is left
 pub record Going (xs : List Float) (n : ℕ) (whole : List Rect) (ys : List Float) (m : ℕ) (rest : List Rect) : Type 0 where
@@ -33,13 +32,6 @@ going_last {k} {j} {xs} {ys} {zs} {n} {m} {p} {whole} {rest} {done} g e h a = re
 pub going_end : {k : ℕ} {xs ys : List Float} {n m : ℕ} {whole rest : List Rect} → Going xs n whole ys m rest → rest ≡ [] → m ≤ n + k → Added k xs n whole ys m
 unfolding after
 going_end {k} {xs} {ys} {n} {m} {whole} {rest} g e h = record { state = ap (after (filled ys m)) (sym e) ∙ g.same; most = h }
-
-pub going_length : {xs ys : List Float} {n m : ℕ} {whole rest : List Rect} → Going xs n whole ys m rest → length ys ≡ length xs
-going_length {xs} {ys} {n} {m} {whole} {rest} g = sym (length_after (filled ys m) rest) ∙ ap (λ (f : Filled). length f.words) g.same ∙ length_after (filled xs n) whole
-
--- the same, of a list that began with nothing
-pub going_listed : {k : ℕ} {xs ys zs : List Float} {m p : ℕ} {whole rest done : List Rect} → Going xs 0 whole ys m rest → rest ≡ done → Added k ys m done zs p → Listed xs whole zs p
-going_listed {k} {xs} {ys} {zs} {m} {p} {whole} g e a = listed p xs whole zs p (going_last {j = p} g e (omega arith) a)
 
 -- ---- the same of a list, whose words stay where they lie
 pub record GoingTo (old : RectList) (whole : List Rect) (new : RectList) (rest : List Rect) : Type 0 where

@@ -53,9 +53,6 @@ boxes_next ibs p (suc i) b h e =
     rw (u, v, e)
 
 -- the same, up to a place
-pub boxes_start : (ibs : List Float) (first count : ℕ) → boxes_in ibs first count ≡ boxes_in ibs first (first + count - first)
-boxes_start ibs first count = let e : count ≡ first + count - first = omega arith in ap (boxes_in ibs first) e
-
 pub boxes_to : (ibs : List Float) (end p : ℕ) (b : Rect) → p < end → b ≡ box_at ibs p → boxes_in ibs p (end - p) ≡ (b ∷ []) ++ boxes_in ibs (p + 1) (end - (p + 1))
 boxes_to ibs end p b h e =
     let f : end - p - 1 ≡ end - (p + 1) = omega arith in
