@@ -1,5 +1,5 @@
 -- Writing as many words as fit. Assumes nothing.
-use mathlib.Core.Path.{◌≡◌, sym, ap, ◌∙◌}
+use mathlib.Core.Path.{◌≡◌, ap, ◌∙◌}
 use mathlib.Core.List.{List, ◌++◌}
 use Prim.Native.Nat.{ℕ, min}
 use Rattle.std.proofs.Math.Nat.{min_comm}
@@ -11,8 +11,3 @@ use Rattle.answer_words.specs.Words.{overwritten}
 pub as_many : (words old : List ℕ) → take (min (length words) (length old)) words ++ drop (min (length words) (length old)) old ≡ overwritten words old
 unfolding overwritten
 as_many words old = (λ i. take (min_comm (length words) (length old) i) words ++ drop_min (length words) old i) ∙ ap (λ l. l ++ drop (length words) old) (take_min (length old) words)
-
--- an answer that is known to be y has y's number and words
-pub told :
-    {A : Type 0} (number : A → ℕ) (words : A → List ℕ) (x y : A) → x ≡ y → (old new : List ℕ) → new ≡ overwritten (words y) old → (number y ≡ number x) × (new ≡ overwritten (words x) old)
-told number words x y q old new e = (ap number (sym q), e ∙ ap (λ a. overwritten (words a) old) (sym q))

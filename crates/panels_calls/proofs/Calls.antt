@@ -56,5 +56,5 @@ module _ (input : List ℕ) (before after : Slices) (r : Result Plan Refusal) wh
   as_next = refl
 
   pub called_as : (entry : Entry) → r ≡ answer_of (lent_of before) (outcome entry input) → after.regions ≡ published r (region_words (outcome entry input)) before.regions → after.words ≡ published r (index_words (outcome entry input)) before.words → CalledAs entry input before after r
-  called_as First a g k header s e = called header none s before after r (first_outcome input) (ap first_outcome e) a g k
-  called_as Next a g k header old s e = called header (some old) s before after r (next_outcome input) (ap next_outcome e) a g k
+  called_as First a g k = λ header s e. called header none s before after r (first_outcome input) (ap first_outcome e) a g k
+  called_as Next a g k = λ header old s e. called header (some old) s before after r (next_outcome input) (ap next_outcome e) a g k

@@ -1,2 +1,0 @@
--- What the proofs of both entries use.
-mod Answered
