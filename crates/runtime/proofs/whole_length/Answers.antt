@@ -1,8 +1,10 @@
 -- `runtime::whole_length` meets its contract: by the kind of the byte, if it is a command's. Assumes nothing.
-use Prim.Native.Nat.{◌+◌, ◌*◌}
+use Prim.Native.Nat.{ℕ, ◌+◌, ◌*◌, ◌<◌}
+use lib.Dec.{eqb}
+use mathlib.Core.Bool.{false}
 use native.Mathlib.Omega.{arith}
 use borrow.Author.Tests.{eq-eqb, ne_eqb}
-use mathlib.Core.Path.{sym, ap, ◌∙◌}
+use mathlib.Core.Path.{◌≡◌, sym, ap, ◌∙◌}
 use Rattle.lists.proofs.Picks.{pick_true, pick_false}
 use Rattle.strip_format.specs.declared.Kind.TheVariants.{Run}
 use Rattle.strip_format.specs.Format.{length_of}
@@ -12,9 +14,12 @@ use Rattle.strip_format.proofs.Lengths.{length_unknown}
 use Rattle.runtime.specs.Placed.{whole_length}
 use Rattle.runtime.proofs.whole_length.Goals as goal
 
+no_run : (b : ℕ) → 7 < b → eqb b 5 ≡ false
+no_run b h = ne_eqb b 5 (λ e. omega arith)
+
 pub returns-in_default : goal.returns-in_default
 unfolding whole_length
-returns-in_default c = sym (pick_false _ _ _ (ne_eqb _ 5 (λ e. omega (arith, c.in_default.ensures.1, e))) ∙ length_unknown _ c.in_default.ensures.1)
+returns-in_default c = sym (pick_false _ _ _ (no_run _ c.in_default.ensures.1) ∙ length_unknown _ c.in_default.ensures.1)
 
 pub returns-in-Run : goal.returns-in-Run
 unfolding whole_length
