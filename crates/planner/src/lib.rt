@@ -80,7 +80,8 @@ fn clear_draft(
     words.fill(0);
 }
 
-// Either entry. Any bytes and any lent space will do.
+// Either entry. Any bytes and any lent space will do. The thirteen slices, which C lends one by one, stay slices: several that a struct
+// lends at once are not covered by the prover.
 fn plan(
     entry: Entry,
     input: &[u8],
