@@ -77,16 +77,10 @@ fn clear_draft(
     words.fill(0);
 }
 
-<<<<<<< HEAD
 // The plan that the entry makes of its input: of a first frame, header and one strip; of a frame after another, header, the last accepted
 // strip and the new one. Any bytes and any lent space will do. The thirteen lent slices stay parameters: C lends them one by one, and a
 // slice of a Vec that is put in a struct, or lent through one of several `&mut` fields, loses its elements for the prover.
 pub fn plan(
-=======
-// Either entry. Any bytes and any lent space will do. The thirteen slices, which C lends one by one, stay slices: several that a struct
-// lends at once are not covered by the prover.
-fn plan(
->>>>>>> 811eac36a0d54d374a731dcc2e9f313acc9320a4
     entry: Entry,
     input: &[u8],
     rects: &mut [f64],
