@@ -15,7 +15,7 @@ pub fn meeting(rect: Rect, band: DeviceRegion) -> bool
     requires { Region.Fit band }
     ensures { result ≡ false → Misses rect band }
 {
-    let end = band.y + band.height;
+    let end = band.bottom();
     let reaches = f64::from(band.y) < rect.y1;
     let below = f64::from(end) <= rect.y0;
     reaches & !below
