@@ -1,23 +1,52 @@
 -- Operands past the end are all 0, and pass. Assumes nothing.
-use Prim.Native.Nat.{ℕ, zero, suc, ◌+◌, ◌≤◌}
+use Prim.Native.Nat.{ℕ, zero, suc, ◌+◌, ◌*◌, ◌≤◌, ◌<◌}
 use mathlib.Core.List.{List}
-use mathlib.Core.Path.{◌≡◌, refl, ap}
-use mathlib.Core.Bool.{true}
+use mathlib.Core.Path.{◌≡◌, refl, sym, ap, ◌∙◌}
+use mathlib.Core.Bool.{Bool, true, false, ◌&&◌}
 use native.Mathlib.Omega.{arith}
-use lib.Ieee.{binary32, of_bits}
+use lib.Ieee.{binary32, binary64, of_bits}
 use lib.Ieee.Scale.{finite}
 use lib.ListN.{length, get_or}
+use borrow.Author.Tests.{ne_eqb}
 use Rattle.std.specs.Prelude.{Result, Ok}
 use Rattle.refusals.specs.declared.Fault.{Fault}
 use Rattle.lists.proofs.Picks.{pick_same}
+use Rattle.little_endian.specs.Words.{u64_at}
 use Rattle.little_endian.proofs.Past.{byte_past, u32_past, u64_past}
 use Rattle.operand_checks.specs.Operands.{finite_from, finite_f32, finite_stroke, finite_run, finite_glyph, codes_fit, operands_at}
 
 module _ (s : List ℕ) where
-  from_past : (at n : ℕ) → length s ≤ at → finite_from s at n ≡ true
+  pub from_past : (at n : ℕ) → length s ≤ at → finite_from s at n ≡ true
   unfolding finite_from of_bits
   from_past at zero p = refl
   from_past at (suc n) p = rw (u64_past s at p) (from_past (at + 8) n (omega arith))
+
+  -- where the end cuts the float at place w of n, those in front of it and what is left of it decide
+  cut_from : (at n w p : ℕ) → length s ≤ p + 8 → w < n → p ≡ at + 8 * w → finite_from s at n ≡ (finite_from s at w && finite (of_bits binary64 (u64_at s p)))
+  unfolding finite_from
+  cut_from at zero w p l h q = absurd (omega (arith, h))
+  cut_from at (suc n) zero p l h q =
+      let e : at ≡ p = omega (arith, q) in
+      ap (λ t. finite (of_bits binary64 (u64_at s at)) && t) (from_past (at + 8) n (omega (arith, l, q))) ∙ and_on (finite (of_bits binary64 (u64_at s at))) ∙ ap (λ (z : ℕ). finite (of_bits binary64 (u64_at s z))) e
+    where
+      and_on : (a : Bool) → (a && true) ≡ a
+      and_on true = refl
+      and_on false = refl
+  cut_from at (suc n) (suc w) p l h q = ap (λ t. finite (of_bits binary64 (u64_at s at)) && t) (cut_from (at + 8) n w p l (omega (arith, h)) (omega (arith, q))) ∙ assoc (finite (of_bits binary64 (u64_at s at))) (finite_from s (at + 8) w) (finite (of_bits binary64 (u64_at s p)))
+    where
+      assoc : (a b c : Bool) → (a && (b && c)) ≡ ((a && b) && c)
+      assoc true b c = refl
+      assoc false b c = refl
+
+  module _ (at n w : ℕ) (l : length s ≤ at + 8 * w + 8) (h : w < n) {b : Bool} (e : b ≡ finite_from s at w) where
+    cut : finite_from s at n ≡ (b && finite (of_bits binary64 (u64_at s (at + 8 * w))))
+    cut = cut_from at n w (at + 8 * w) l h refl ∙ ap (λ t. t && finite (of_bits binary64 (u64_at s (at + 8 * w)))) (sym e)
+
+    pub cut_on : b ≡ true → finite (of_bits binary64 (u64_at s (at + 8 * w))) ≡ finite_from s at n
+    cut_on f = sym (cut ∙ ap (λ t. t && finite (of_bits binary64 (u64_at s (at + 8 * w)))) f)
+
+    pub cut_off : b ≡ false → b ≡ finite_from s at n
+    cut_off f = f ∙ sym (cut ∙ ap (λ t. t && finite (of_bits binary64 (u64_at s (at + 8 * w)))) f)
 
   f32_past : (at : ℕ) → length s ≤ at → finite_f32 s at ≡ true
   unfolding of_bits
@@ -44,3 +73,8 @@ module _ (s : List ℕ) where
   operands_past at b p =
       rw (from_past (at + 1) 4 (omega arith), from_past (at + 9) 10 (omega arith), codes_past at p, stroke_past at p, run_past at p, glyph_past at p, from_past (at + 25) 10 (omega arith))
       (simp (pick_same {A = Result (Unit {0}) Fault}))
+
+  -- a byte that is no command's has no operands
+  pub operands_unknown : (at b : ℕ) → 7 < b → operands_at s at b ≡ Ok tt
+  unfolding operands_at
+  operands_unknown at b h = simp (ne_eqb b 1 (λ e. omega arith), ne_eqb b 3 (λ e. omega arith), ne_eqb b 4 (λ e. omega arith), ne_eqb b 5 (λ e. omega arith), ne_eqb b 6 (λ e. omega arith), ne_eqb b 7 (λ e. omega arith))

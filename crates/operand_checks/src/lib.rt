@@ -9,20 +9,7 @@ ghost use Rattle.operand_checks.specs.Operands as Operands;
 use refusals::Fault;
 use strip_format::Kind;
 
-// Whether the n f64 from an offset on are finite, where bytes may be missing.
-fn finite_cut(s: &[u8], at: usize, n: usize) -> bool
-    requires { at + 8 * n < 2 ^ 64 }
-    ensures { result ≡ Operands.finite_from s.now at n }
-{
-    for k in 0..n {
-        if !little_endian::finite64(little_endian::u64_at(s, at + 8 * k)) {
-            return false;
-        }
-    }
-    true
-}
-
-// The same where all bytes are there: none is asked for its place.
+// Whether the n f64 from an offset on, whose bytes are all there, are finite: none is asked for its place.
 fn finite_inside(s: &[u8], at: usize, n: usize) -> bool
     requires { at + 8 * n ≤ length s.now }
     ensures { result ≡ Operands.finite_from s.now at n }
@@ -35,15 +22,19 @@ fn finite_inside(s: &[u8], at: usize, n: usize) -> bool
     true
 }
 
-// The same by the room there is.
+// The same where bytes may be missing: the floats that stand whole, and the one that the end cuts. Past it all are 0.
 fn finite_from(s: &[u8], at: usize, n: usize) -> bool
     requires { at + 8 * n < 2 ^ 64 }
     ensures { result ≡ Operands.finite_from s.now at n }
 {
-    if s.len() < at + 8 * n {
-        return finite_cut(s, at, n);
+    if at + 8 * n <= s.len() {
+        return finite_inside(s, at, n);
     }
-    finite_inside(s, at, n)
+    if s.len() <= at {
+        return true;
+    }
+    let whole = (s.len() - at) / 8;
+    finite_inside(s, at, whole) && little_endian::finite64(little_endian::u64_at(s, at + 8 * whole))
 }
 
 fn finite_f32(s: &[u8], at: usize) -> bool
@@ -114,14 +105,17 @@ fn operands_inside(s: &[u8], at: usize, kind: Kind) -> Result<(), Fault>
     }
 }
 
-// Whether the operands of the command at an offset pass, or what is wrong with them.
-pub fn operands(s: &[u8], at: usize, kind: Kind) -> Result<(), Fault>
-    ensures { result ≡ Operands.operands_at s.now at (code kind) }
+// Whether the operands of the command at an offset pass, by its byte, or what is wrong with them. A byte that is no command's has none.
+pub fn operands(s: &[u8], at: usize, byte: u8) -> Result<(), Fault>
+    ensures { result ≡ Operands.operands_at s.now at byte }
 {
     if s.len() <= at {
         return Ok(());
     }
-    operands_inside(s, at, kind)
+    match Kind::try_from(byte) {
+        Ok(kind) => operands_inside(s, at, kind),
+        Err(_) => Ok(()),
+    }
 }
 
 // Whether the floats of the GLYPH at an offset are finite. One that stands whole is tested here, so that this is compiled into the loop
