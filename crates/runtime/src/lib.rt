@@ -99,12 +99,11 @@ fn whole_length(s: &[u8], at: usize) -> usize
     requires { at < length s.now }
     ensures { result ≡ whole_length s.now at }
 {
-    match Kind::try_from(s[at]) {
-        Ok(Kind::Run) => RUN_LENGTH
-            + GLYPH_LENGTH * usize::from(strip_format::glyph_count_at(s, at)),
-        Ok(kind) => kind.length(),
-        Err(_) => 1,
+    let byte = s[at];
+    if Kind::try_from(byte) == Ok(Kind::Run) {
+        return RUN_LENGTH + GLYPH_LENGTH * usize::from(strip_format::glyph_count_at(s, at));
     }
+    strip_format::length_of(byte)
 }
 
 // True only where the same command stands at both offsets, with the same glyphs: their bytes are the same, and nothing is

@@ -335,7 +335,8 @@ pub fn take_step(s: &[u8], st: Cursor) -> Result<Step, Refusal>
     if s.len() <= at {
         return Err(Fault::CutOff.at(s.len()));
     }
-    let Ok(kind) = Kind::try_from(s[at]) else {
+    let byte = s[at];
+    let Ok(kind) = Kind::try_from(byte) else {
         return Err(Fault::UnknownCode.at(at));
     };
     if !due_fits(kind, st.due) {
@@ -344,7 +345,7 @@ pub fn take_step(s: &[u8], st: Cursor) -> Result<Step, Refusal>
     if s.len() - at < kind.length() {
         return Err(Fault::CutOff.at(at));
     }
-    match operand_checks::operands(s, at, kind) {
+    match operand_checks::operands(s, at, byte) {
         Ok(()) => settle(effect_of(s, st, kind)?),
         Err(fault) => Err(fault.at(at)),
     }

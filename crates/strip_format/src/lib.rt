@@ -15,6 +15,7 @@ use geometry::Rect;
 
 // The lengths of a RUN and of a GLYPH, which callers step over.
 pub const RUN_LENGTH: usize = 103;
+
 pub const GLYPH_LENGTH: usize = 45;
 
 // What a command is, by its byte.
@@ -66,6 +67,16 @@ impl Kind {
             Kind::Glyph => GLYPH_LENGTH,
             Kind::Scene => 105,
         }
+    }
+}
+
+// The length of a command with its operands, by its byte; 1 for bytes that are no command's.
+pub fn length_of(byte: u8) -> usize
+    ensures { result ≡ Format.length_of byte }
+{
+    match Kind::try_from(byte) {
+        Ok(kind) => kind.length(),
+        Err(_) => 1,
     }
 }
 
