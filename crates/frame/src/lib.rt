@@ -10,10 +10,10 @@ use screen::Screen;
 use strip::Cursor;
 
 // How many bytes the header has.
-const HEADER_LENGTH: usize = 12;
+pub const HEADER_LENGTH: usize = 12;
 
 // Where the old strip ended, and where the new one.
-#[derive(Clone, Copy)]
+#[derive(Clone, Copy, Debug, PartialEq)]
 pub struct Strips {
     pub old: Cursor,
     pub new: Cursor,

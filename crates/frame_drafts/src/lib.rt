@@ -26,10 +26,10 @@ pub enum Entry {
 
 // How many items the strips of an input have.
 #[derive(Clone, Copy, Debug, PartialEq, Eq)]
-struct Items {
-    commands: u64,
-    glyphs: u64,
-    clips: u64,
+pub struct Items {
+    pub commands: u64,
+    pub glyphs: u64,
+    pub clips: u64,
 }
 
 // What a draft is made of: the new strip's commands, from place `first` on, and the first n rectangles of scratch, of which there may be

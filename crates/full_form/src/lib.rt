@@ -8,18 +8,19 @@ ghost use Rattle.candidates.specs.Table.{find};
 ghost use Rattle.full_form.specs.Texts.{refused_line, row_line};
 
 use entry_calls::{Entry, Space};
+use frame::Strips;
+use frame_drafts::Items;
 use plans::Plan;
 use printing::{Numbers, Totals};
 use refusals::Refusal;
 use runtime::FrameWork;
 use screen::Screen;
 use std::io::Write;
-use std::ops::Add;
 use std::{fmt, io};
 use strip::Cursor;
 
 // The bits of an edge, a zero without its sign: only that sign is open.
-#[derive(Clone, Copy)]
+#[derive(Clone, Copy, Debug, PartialEq)]
 struct Edge(f64);
 
 impl fmt::Display for Edge {
@@ -33,43 +34,22 @@ impl fmt::Display for Edge {
     }
 }
 
-// How many commands, glyphs and clips the strips of an input have.
-#[derive(Clone, Copy, Debug, PartialEq, Eq)]
-struct Items {
-    commands: u64,
-    glyphs: u64,
-    clips: u64,
-}
-
-impl Add for Items {
-    type Output = Items;
-
-    fn add(self, other: Items) -> Items {
-        Items {
-            commands: self.commands.wrapping_add(other.commands),
-            glyphs: self.glyphs.wrapping_add(other.glyphs),
-            clips: self.clips.wrapping_add(other.clips),
-        }
-    }
-}
-
-impl From<Cursor> for Items {
-    fn from(end: Cursor) -> Items {
-        Items {
-            commands: end.commands,
-            glyphs: end.glyphs,
-            clips: end.clips,
-        }
-    }
-}
-
 // What the strips of a call have; nothing where the input is refused.
 fn items_of(entry: Entry, input: &[u8]) -> Option<Items> {
+    let items = |end: Cursor| Items {
+        commands: end.commands,
+        glyphs: end.glyphs,
+        clips: end.clips,
+    };
     match entry {
-        Entry::First => frame::first_frame(input).ok().map(Items::from),
+        Entry::First => frame::first_frame(input).ok().map(items),
         Entry::Next => {
-            let both = frame::both_strips(input).ok()?;
-            Some(Items::from(both.old) + Items::from(both.new))
+            let Strips { old, new } = frame::both_strips(input).ok()?;
+            Some(Items {
+                commands: old.commands.wrapping_add(new.commands),
+                glyphs: old.glyphs.wrapping_add(new.glyphs),
+                clips: old.clips.wrapping_add(new.clips),
+            })
         }
     }
 }

@@ -8,7 +8,7 @@ ghost use Rattle.strip.specs.Reading.{read_strip};
 ghost use Rattle.recording.specs.Recorded.{space, SameLengths, Records, RecordsFirst, RecordsNew, RecordsBoth};
 
 use display_list::ListState;
-use frame::Strips;
+use frame::{HEADER_LENGTH, Strips};
 use refusals::Refusal;
 use strip::{Cursor, Step};
 
@@ -74,7 +74,7 @@ pub fn record_first(
     ensures lengths { SameLengths (space boxes.old below.old items.old item_boxes.old) (space boxes.new below.new items.new item_boxes.new) }
     ensures lists { RecordsFirst s.now (space boxes.new below.new items.new item_boxes.new) result }
 {
-    let new = record_strip(s, 12, 0, 0, boxes, below, items, item_boxes)?;
+    let new = record_strip(s, HEADER_LENGTH, 0, 0, boxes, below, items, item_boxes)?;
     frame::at_end(s, new)
 }
 
@@ -112,6 +112,6 @@ pub fn record_both(
     ensures lengths { SameLengths (space boxes.old below.old items.old item_boxes.old) (space boxes.new below.new items.new item_boxes.new) }
     ensures lists { RecordsBoth s.now (space boxes.new below.new items.new item_boxes.new) result }
 {
-    let old = record_strip(s, 12, 0, 0, boxes, below, items, item_boxes)?;
+    let old = record_strip(s, HEADER_LENGTH, 0, 0, boxes, below, items, item_boxes)?;
     record_new(s, old, boxes, below, items, item_boxes)
 }

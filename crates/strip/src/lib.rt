@@ -31,7 +31,7 @@ const MOST_GLYPHS: u64 = 16384;
 
 // Where reading stands: the offset, how many clips are open, what has been counted, how many glyphs are due of the run at
 // `run`, and the union of its glyph boxes so far.
-#[derive(Clone, Copy)]
+#[derive(Clone, Copy, Debug, PartialEq)]
 pub struct Cursor {
     pub at: usize,
     pub depth: u64,
@@ -45,7 +45,7 @@ pub struct Cursor {
 
 // What the command at the cursor does, unless it is turned away. `Draw` says that a drawing command is whole, with its offset and
 // its transformed box; `Next` that only the cursor moves.
-#[derive(Clone, Copy)]
+#[derive(Clone, Copy, Debug, PartialEq)]
 pub enum Step {
     Next(Cursor),
     Clip(Cursor, Rect),
@@ -57,7 +57,7 @@ pub enum Step {
 // What a command does, before the box of what it draws is transformed: a drawing command that is whole, with the cursor behind it,
 // its offset, where the command that completes it stands, its affine and its box; or all that there is to say. All boxes are then
 // transformed in one place, so that this is compiled into the loop that reads.
-#[derive(Clone, Copy)]
+#[derive(Clone, Copy, Debug, PartialEq)]
 enum Effect {
     Drawn {
         next: Cursor,

@@ -5,7 +5,7 @@ ghost use Rattle.strip.specs.Reading as Reading;
 use crate::Cursor;
 use refusals::Refusal;
 
-#[derive(Clone, Copy)]
+#[derive(Clone, Copy, Debug)]
 pub struct Reader<'a> {
     pub src: &'a [u8],
     pub at: usize,
