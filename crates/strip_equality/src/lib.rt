@@ -2,14 +2,12 @@
 // command is built for it, and a float that has the bits of the other is not decoded either.
 #![tactic(auto)]
 
-ghost use Rattle.std.specs.Prelude.{◌≡◌, ◌+◌, ◌≤◌, length};
+ghost use Rattle.std.specs.Prelude.{◌≡◌, ◌+◌, ◌*◌, ◌≤◌, length};
 ghost use Rattle.std.specs.Float.Ieee.{eq};
 ghost use Rattle.little_endian.specs.Words.{f64_at};
-ghost use Rattle.geometry.specs.Boxes.{same_edges};
-ghost use Rattle.operand_equality.specs.Operands.{same_affine};
 ghost use Rattle.equality.specs.Drawings.{same_drawing};
 ghost use Rattle.strip_format.specs.Format.{rect_at, affine_at, fill_at, stroke_path_at, scene_at, command_at};
-ghost use Rattle.strip_equality.specs.Places.{same_path_at};
+ghost use Rattle.strip_equality.specs.Places.{same_floats, same_path_at};
 
 use operand_equality::stroke_eq;
 use strip_format::{Kind, stroke_at};
@@ -27,47 +25,32 @@ fn same_f64(s: &[u8], p: usize, q: usize) -> bool
     little_endian::f64_at(s, p) == little_endian::f64_at(s, q)
 }
 
-// Whether the boxes at two offsets are equal. Most have the same bytes, and then no edge is looked at by itself; so with affines.
-#[tactic(auto, unfolding(geometry::specs::Boxes::same_edges))]
-fn same_rect(s: &[u8], p: usize, q: usize) -> bool
-    requires { (p + 32 ≤ length s.now) × (q + 32 ≤ length s.now) }
-    ensures { result ≡ same_edges (rect_at s.now p) (rect_at s.now q) }
+// Whether the N f64 at two offsets are equal: a box's four, an affine's six. Most have the same bytes, and then none is looked at by itself.
+fn same_floats<const N: usize>(s: &[u8], p: usize, q: usize) -> bool
+    requires { (p + 8 * N ≤ length s.now) × (q + 8 * N ≤ length s.now) }
+    ensures { result ≡ same_floats s.now p q N }
 {
-    if little_endian::same_bytes(s, p, q, 32) {
+    if little_endian::same_bytes(s, p, q, 8 * N) {
         return true;
     }
-    same_f64(s, p, q)
-        && same_f64(s, p + 8, q + 8)
-        && same_f64(s, p + 16, q + 16)
-        && same_f64(s, p + 24, q + 24)
-}
-
-#[tactic(auto, unfolding(operand_equality::specs::Operands::same_affine))]
-fn same_affine(s: &[u8], p: usize, q: usize) -> bool
-    requires { (p + 48 ≤ length s.now) × (q + 48 ≤ length s.now) }
-    ensures { result ≡ same_affine (affine_at s.now p) (affine_at s.now q) }
-{
-    if little_endian::same_bytes(s, p, q, 48) {
-        return true;
+    for i in 0..N {
+        if !same_f64(s, p + 8 * i, q + 8 * i) {
+            return false;
+        }
     }
-    same_f64(s, p, q)
-        && same_f64(s, p + 8, q + 8)
-        && same_f64(s, p + 16, q + 16)
-        && same_f64(s, p + 24, q + 24)
-        && same_f64(s, p + 32, q + 32)
-        && same_f64(s, p + 40, q + 40)
+    true
 }
 
 // The operands that a FILL and a STROKE share. The numbers come first: where they differ no float is looked at.
-#[tactic(auto, unfolding(operand_equality::specs::Operands::same_path))]
+#[tactic(auto, unfolding(operand_equality::specs::Operands::same_path), using(crate::proofs::Places::four_same, crate::proofs::Places::six_same))]
 fn same_path(s: &[u8], p: usize, q: usize) -> bool
     requires { (p + 97 ≤ length s.now) × (q + 97 ≤ length s.now) }
     ensures { result ≡ same_path_at s.now p q }
 {
     little_endian::u64_inside(s, p + 1) == little_endian::u64_inside(s, q + 1)
         && little_endian::u64_inside(s, p + 89) == little_endian::u64_inside(s, q + 89)
-        && same_rect(s, p + 9, q + 9)
-        && same_affine(s, p + 41, q + 41)
+        && same_floats::<4>(s, p + 9, q + 9)
+        && same_floats::<6>(s, p + 41, q + 41)
 }
 
 #[tactic(auto, unfolding(equality::specs::Drawings::same_drawing, equality::specs::Drawings::same_stroked))]
@@ -78,7 +61,7 @@ fn same_stroked(s: &[u8], p: usize, q: usize) -> bool
     same_path(s, p, q) && stroke_eq(stroke_at(s, p + 97), stroke_at(s, q + 97))
 }
 
-#[tactic(auto, unfolding(equality::specs::Drawings::same_drawing, equality::specs::Drawings::same_scene))]
+#[tactic(auto, unfolding(equality::specs::Drawings::same_drawing, equality::specs::Drawings::same_scene), using(crate::proofs::Places::four_same, crate::proofs::Places::six_same))]
 fn same_scene(s: &[u8], p: usize, q: usize) -> bool
     requires { (p + 105 ≤ length s.now) × (q + 105 ≤ length s.now) }
     ensures { result ≡ same_drawing (scene_at s.now p) (scene_at s.now q) }
@@ -86,8 +69,8 @@ fn same_scene(s: &[u8], p: usize, q: usize) -> bool
     little_endian::u64_inside(s, p + 1) == little_endian::u64_inside(s, q + 1)
         && little_endian::u64_inside(s, p + 9) == little_endian::u64_inside(s, q + 9)
         && little_endian::u64_inside(s, p + 17) == little_endian::u64_inside(s, q + 17)
-        && same_affine(s, p + 25, q + 25)
-        && same_rect(s, p + 73, q + 73)
+        && same_floats::<6>(s, p + 25, q + 25)
+        && same_floats::<4>(s, p + 73, q + 73)
 }
 
 fn same_decoded(s: &[u8], p: usize, q: usize) -> bool
