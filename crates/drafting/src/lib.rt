@@ -13,7 +13,8 @@ use scheduler::Totals;
 use screen::Screen;
 
 // The index of the commands that have these boxes, for a frame whose regions are scheduled. `spans` is scratch, a number for
-// each command.
+// each command. What a plan counts, and the spaces lent for the index, are of kinds of their own: a struct of them would serve this call
+// alone.
 fn index_draft(
     screen: Screen,
     room: usize,

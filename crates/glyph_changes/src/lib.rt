@@ -88,7 +88,8 @@ fn append_glyph_bounds(s: &[u8], boxes: &[f64], run: Run, first: usize, rects: &
 }
 
 // Appends what changed from the glyph at an offset to the one at another: nothing where they are painted alike, and
-// else the union of both boxes. Most have the same bytes, and then none is decoded.
+// else the union of both boxes. Most have the same bytes, and then none is decoded. A run with an offset as one struct would be made anew
+// for each glyph, for this call alone.
 fn append_changed(
     s: &[u8],
     boxes: &[f64],

@@ -21,7 +21,7 @@ fn rect_room(rects: &[f64], draft_rects: &[f64], work: &[u64], spare: &[u64]) ->
     listed.min(worked)
 }
 
-// Copies a plan that was accepted from scratch to the output.
+// Copies a plan that was accepted from scratch to the output, each three slices as they were lent.
 fn publish(
     plan: Result<Plan, Refusal>,
     draft_rects: &[f64],

@@ -345,6 +345,7 @@ pub fn take_step(s: &[u8], st: Cursor) -> Result<Step, Refusal>
     if s.len() - at < kind.length() {
         return Err(Fault::CutOff.at(at));
     }
+    // A match, since `?` alone could not say where the fault is.
     match operand_checks::operands(s, at, byte) {
         Ok(()) => settle(effect_of(s, st, kind)?),
         Err(fault) => Err(fault.at(at)),

@@ -95,7 +95,7 @@ fn floats_at<const N: usize>(s: &[u8], at: usize) -> [f64; N]
     floats
 }
 
-// True only where the N f64 from an offset on are finite.
+// True only where the N f64 from an offset on are finite. A loop: tried as `(0..N).all(..)`, and the proof doesn't close.
 fn all_finite<const N: usize>(s: &[u8], at: usize) -> bool
     requires { at + 8 * N ≤ length s.now }
     ensures { result ≡ true → AllFinite s.now at N }
