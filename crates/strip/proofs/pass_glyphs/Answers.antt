@@ -11,23 +11,11 @@ use Rattle.strip.proofs.pass_glyphs.Goals as goal
 pub returns-then-st-lt2 : goal.returns-then-st-lt2
 returns-then-st-lt2 c = passes_none _ _
 
-pub returns-then-near-lt2 : goal.returns-then-near-lt2
-returns-then-near-lt2 c = c.pass_near-near.ensures.1
-
 pub loop-transform-init : goal.loop-transform-init
 loop-transform-init c = (c.transform_at-transform.ensures, c.pass_near-near.ensures.0, passes_none _ _)
 
-pub overflow_add-at : goal.overflow_add-at
-overflow_add-at c = omega (arith, (c.glyph_goes_on.ensures c.loop-transform-test.true).due.room, c.well_formed.0.0)
-
 pub rect_finite-bounds-requires : goal.rect_finite-bounds-requires
 rect_finite-bounds-requires c = (omega (arith, (c.glyph_goes_on.ensures c.loop-transform-test.true).due.room), glyph_finite _ _ (c.glyph_goes_on.ensures c.loop-transform-test.true).operands)
-
-pub past_glyph-next-requires : goal.past_glyph-next-requires
-past_glyph-next-requires c = (omega (arith, (c.glyph_goes_on.ensures c.loop-transform-test.true).due.room, c.well_formed.0.0), omega (arith, (c.glyph_goes_on.ensures c.loop-transform-test.true).due.more), (c.glyph_goes_on.ensures c.loop-transform-test.true).due.count)
-
-pub loop-transform-smaller : goal.loop-transform-smaller
-loop-transform-smaller c = omega (arith, (c.glyph_goes_on.ensures c.loop-transform-test.true).due.more, ap (λ (x : Cursor). x.due) c.past_glyph-next.ensures)
 
 pub loop-transform-preserved : goal.loop-transform-preserved
 loop-transform-preserved c = (c.loop-transform.invariant.0, ap (λ (x : Cursor). x.run) c.past_glyph-next.ensures ∙ c.loop-transform.invariant.1, passes_one _ _ _ _ c.loop-transform.invariant.2 (goes_on _ _ _ (transform_is _ _ _ c.loop-transform.next c.loop-transform.invariant.0 c.loop-transform.invariant.1) (c.glyph_goes_on.ensures c.loop-transform-test.true) ∙ ap (λ (x : Cursor). Ok (Next x)) (sym (glyph_read_lem _ _ _ _ c.rect_finite-bounds.ensures c.past_glyph-next.ensures))))

@@ -10,23 +10,11 @@ use Rattle.strip.proofs.pass_near.Goals as goal
 pub loop-at-init : goal.loop-at-init
 loop-at-init c = (c.near_run.ensures c.if-near_run.true, refl, passes_none _ _)
 
-pub overflow_add-at : goal.overflow_add-at
-overflow_add-at c = omega (arith, (c.near_goes_on.ensures c.loop-at-test.true).0.room, c.well_formed.0.0)
-
 pub rect_finite-bounds-requires : goal.rect_finite-bounds-requires
 rect_finite-bounds-requires c = (omega (arith, (c.near_goes_on.ensures c.loop-at-test.true).0.room), near_finite _ _ (c.near_goes_on.ensures c.loop-at-test.true).3)
 
-pub past_glyph-next-requires : goal.past_glyph-next-requires
-past_glyph-next-requires c = (omega (arith, (c.near_goes_on.ensures c.loop-at-test.true).0.room, c.well_formed.0.0), omega (arith, (c.near_goes_on.ensures c.loop-at-test.true).0.more), (c.near_goes_on.ensures c.loop-at-test.true).0.count)
-
-pub loop-at-smaller : goal.loop-at-smaller
-loop-at-smaller c = omega (arith, (c.near_goes_on.ensures c.loop-at-test.true).0.more, ap (λ (x : Cursor). x.due) c.past_glyph-next.ensures)
-
 pub loop-at-preserved : goal.loop-at-preserved
 loop-at-preserved c = (c.loop-at.invariant.0, ap (λ (x : Cursor). x.run) c.past_glyph-next.ensures ∙ c.loop-at.invariant.1, passes_one _ _ _ _ c.loop-at.invariant.2 (near_step _ _ _ _ c.loop-at.invariant.0 c.loop-at.invariant.1 (c.near_goes_on.ensures c.loop-at-test.true) c.rect_finite-bounds.ensures c.past_glyph-next.ensures))
-
-pub returns-after-loop-at : goal.returns-after-loop-at
-returns-after-loop-at c = (c.loop-at.invariant.1, c.loop-at.invariant.2)
 
 pub returns-else-near_run : goal.returns-else-near_run
 returns-else-near_run c = (refl, passes_none _ _)

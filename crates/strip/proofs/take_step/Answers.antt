@@ -23,9 +23,6 @@ returns-then-s-at-2 c = ap Err c.at-then-s-at-2.ensures ∙ step_short _ _ _ (sy
 pub returns-in-Err : goal.returns-in-Err
 returns-in-Err c = ap Err c.at-in-Err.ensures ∙ step_operands _ _ _ (sym c.in-Ok.ensures) c.if-s-at.false (code_most _) (sym c.due_fits.ensures ∙ c.if-not-due_fits.false) _ (omega (arith, c.if-s-at-2.false, c.length.ensures)) (ap (λ (b : ℕ). operands_at c.args.s.now c.args.st.at b) c.in-Ok.ensures ∙ sym c.operands.ensures ∙ c.in-Err.is)
 
-pub effect_of-requires : goal.effect_of-requires
-effect_of-requires c = (record { byte = sym c.in-Ok.ensures; known = code_most _; room = omega (arith, c.if-s-at-2.false, c.length.ensures, c.if-s-at.false); operands = ap (λ (b : ℕ). operands_at c.args.s.now c.args.st.at b) c.in-Ok.ensures ∙ sym c.operands.ensures ∙ c.in-Ok-operands.is }, sym c.due_fits.ensures ∙ c.if-not-due_fits.false)
-
 pub returns-in_err-effect_of-in-Ok-operands : goal.returns-in_err-effect_of-in-Ok-operands
 returns-in_err-effect_of-in-Ok-operands c = let p = err_from_is_err_and c.from_residual.result c.from_residual.ensures.1 in rw (p.1, p.2) (c.in_err-effect_of-in-Ok-operands.ensures ∙ step_effect _ _ _ (sym c.in-Ok.ensures) c.if-s-at.false (code_most _) (sym c.due_fits.ensures ∙ c.if-not-due_fits.false) (omega (arith, c.if-s-at-2.false, c.length.ensures)) (ap (λ (b : ℕ). operands_at c.args.s.now c.args.st.at b) c.in-Ok.ensures ∙ sym c.operands.ensures ∙ c.in-Ok-operands.is))
 
