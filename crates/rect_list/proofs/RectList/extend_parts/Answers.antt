@@ -17,4 +17,3 @@ loop-part-preserved c =
       | in-Some w ↦ rw w.self-is (part_to _ _ h c.loop-part.invariant (some_to w.in-Some.is w.push.ensures))
       | in_default w ↦ rw w.self-is (part_to _ _ h c.loop-part.invariant (none_to w.in_default.is))
     ]
-
