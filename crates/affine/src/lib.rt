@@ -32,6 +32,7 @@ impl From<[f64; 6]> for Affine {
     }
 }
 
+// Least and greatest are two, as `floats::smaller` and `larger` are.
 fn least(numbers: [f64; 4]) -> f64
     ensures { result ≡ Affines.of_numbers Affines.least numbers }
 {

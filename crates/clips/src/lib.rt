@@ -1,5 +1,6 @@
 // Numbered clips in lent space, dew's `Arc<[ClipRegion]>`: a clip is its own box, the box of all clips up to
-// it, and the number of the one below. Numbers count from 1; 0 is none.
+// it, and the number of the one below. Numbers count from 1; 0 is none, and no Option, since lent words hold numbers alone. Boxes and
+// numbers are two slices, as C lends them. A number is bound to a slice that another type holds, so that its bound stays a `requires`.
 #![tactic(auto)]
 
 ghost use Rattle.std.specs.Prelude.{◌≡◌, ◌*◌, ◌≤◌, ◌<◌, length, set};

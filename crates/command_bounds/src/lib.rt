@@ -18,7 +18,7 @@ pub fn kind_at(s: &[u8], at: usize) -> Option<Kind>
     (kind.length() <= s.len() - at).then_some(kind)
 }
 
-// What stands for an affine where no drawing command stands whole.
+// What stands for an affine where no drawing command stands whole. No Option: a function of every offset has an answer at each.
 const NONE: Affine = Affine {
     a: 0.0,
     b: 0.0,

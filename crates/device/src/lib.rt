@@ -7,7 +7,8 @@ ghost use Rattle.device.specs.Region as Region;
 
 use geometry::Rect;
 
-// An axis-aligned region in whole device pixels, x and y at the top left.
+// An axis-aligned region in whole device pixels, x and y at the top left. No invariant: any four numbers make a region, and `Fit` in the
+// type would ask it of all who make one.
 #[derive(Clone, Copy, PartialEq, Eq, Debug)]
 pub struct DeviceRegion {
     pub x: u32,

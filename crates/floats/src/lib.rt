@@ -17,7 +17,8 @@ pub fn larger(a: f64, b: f64) -> f64
     if a < b { b } else { a }
 }
 
-// The smaller of two numbers, and the first where they are equal; f64's own `min` differs as `max` does.
+// The smaller of two numbers, and the first where they are equal; f64's own `min` differs as `max` does. Two functions and not one over
+// the order: every caller would hand the order in as a closure.
 #[tactic(auto, unfolding(crate::specs::Order::smaller))]
 pub fn smaller(a: f64, b: f64) -> f64
     ensures { result ≡ Order.smaller a b }

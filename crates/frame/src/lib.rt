@@ -53,7 +53,8 @@ pub fn at_end(s: &[u8], last: Cursor) -> Result<Cursor, Refusal>
     Ok(last)
 }
 
-// The strip behind the header, and nothing behind it.
+// The strip behind the header, and nothing behind it. `recording` has the same three for strips that are stored: this reading stores
+// nothing and asks for no space, and one function over both would be handed the step as a closure.
 pub fn first_frame(s: &[u8]) -> Result<Cursor, Refusal>
     ensures { result ≡ Frame.first_of s.now }
 {

@@ -91,6 +91,7 @@ pub fn finite64(bits: u64) -> bool
     bits % 0x8000_0000_0000_0000 < 0x7ff0_0000_0000_0000
 }
 
+// By itself at each type, as the readers below.
 pub fn finite32(bits: u32) -> bool
     ensures { result ≡ finite (of_bits binary32 bits) }
 {

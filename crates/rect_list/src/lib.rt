@@ -8,7 +8,8 @@ ghost use Rattle.rect_list.specs.Rects.{AddedTo};
 
 use geometry::Rect;
 
-// The lent words, and how many boxes were appended: more than are stored, where they found no room.
+// The lent words, and how many boxes were appended: more than are stored, where they found no room. The count's bound stays a
+// `requires`: a push moves it, so that no invariant keeps it.
 #[derive(Debug, Drop)]
 pub struct RectList<'a> {
     pub words: &'a mut [f64],

@@ -47,7 +47,7 @@ impl FrameWork {
 }
 
 // The lent space of two display lists, one behind the other: the bytes of their strips, their clips, and for each command where its
-// bytes begin, its clip number and its box.
+// bytes begin, its clip number and its box: five slices, as C lends them.
 #[derive(Clone, Copy, Debug, PartialEq)]
 pub struct ListSpace<'a> {
     pub bytes: &'a [u8],

@@ -5,7 +5,8 @@ ghost use Rattle.std.specs.Prelude.{◌≡◌, ◌<◌};
 ghost use Rattle.rows.specs.Rows.{row_count};
 ghost use Rattle.screen.specs.Sizes as Sizes;
 
-// How wide and how high a screen is, and how high each of its bands, of which the last may be cut.
+// How wide and how high a screen is, and how high each of its bands, of which the last may be cut. No invariant: a header may have any
+// three sizes, and `fits` tells.
 #[derive(Clone, Copy, Debug, PartialEq, Eq)]
 pub struct Screen {
     pub width: u32,

@@ -70,7 +70,7 @@ impl Kind {
     }
 }
 
-// The length of a command with its operands, by its byte; 1 for bytes that are no command's.
+// The length of a command with its operands, by its byte, whatever it is; 1 for bytes that are no command's.
 pub fn length_of(byte: u8) -> usize
     ensures { result ≡ Format.length_of byte }
 {
@@ -323,7 +323,7 @@ fn blank() -> DrawCommand
     }
 }
 
-// The drawing command at an offset, and one without content where none stands whole.
+// The drawing command at an offset, and one without content where none stands whole: no Option, since every offset has an answer.
 pub fn command_at(s: &[u8], at: usize) -> DrawCommand
     ensures { result ≡ Format.command_at s.now at }
 {
