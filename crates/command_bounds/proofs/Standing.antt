@@ -1,12 +1,13 @@
 -- Which command stands at an offset, by its kind. Assumes nothing.
 use mathlib.Core.Path.{◌≡◌, refl, sym, ap, subst, ◌∙◌}
 use mathlib.Core.Bool.{Bool, true, false}
+use mathlib.Core.Logic.{◌⊎◌, inl, inr}
 use mathlib.Core.List.{List}
 use Prim.Native.Nat.{ℕ, ◌+◌, ◌-◌, ◌≤◌, ◌<◌}
 use native.Mathlib.Omega.{arith}
-use lib.Dec.{leb}
+use lib.Dec.{leb, eqb}
 use lib.ListN.{length, get_or}
-use borrow.Author.Tests.{leb-true, leb-false, le-leb, lt-leb}
+use borrow.Author.Tests.{leb-true, leb-false, le-leb, lt-leb, eqb-false}
 use Rattle.std.specs.Prelude.{Option, Some, None}
 use Rattle.std.specs.Bool.{then_some}
 use Rattle.lists.specs.Pick.{pick}
@@ -17,12 +18,15 @@ use Rattle.strip_format.proofs.Commands.{command_fill, command_stroke, command_r
 use Rattle.strip_format.specs.declared.Kind.{Kind}
 use Rattle.strip_format.specs.declared.Kind.TheVariants.{Fill, Stroke, Run, Scene}
 use Rattle.strip_format.specs.Kinds.{code, kind_of}
-use Rattle.strip_format.proofs.Codes.{kind_known, kind_code}
+use Rattle.strip_format.proofs.Codes.{kind_known, kind_code, kind_missing as unknown}
 use Rattle.command_bounds.specs.Kinds.{kind_at}
 
 abbrev there : Option Kind → Type 0
 there (Some k) = Unit {0}
 there None = ⊥
+
+pub missing : {k : Kind} → ◌≡◌ {A = Option Kind} None (Some k) → ⊥
+missing q = subst there (sym q) tt
 
 module _ (s : List ℕ) (at : ℕ) where
   pub kind_short : length s < at + length_of (get_or s at 0) → kind_at s at ≡ None
@@ -43,6 +47,15 @@ module _ (s : List ℕ) (at : ℕ) where
   pub kind_none : kind_of (get_or s at 0) ≡ None → kind_at s at ≡ None
   kind_none e = kind_read e ∙ pick_same (leb (at + length_of (get_or s at 0)) (length s)) None
 
+  -- no kind: the command is not whole, or the byte no command's
+  pub kind_missing : kind_at s at ≡ None → (length s < at + length_of (get_or s at 0)) ⊎ (7 < get_or s at 0)
+  unfolding kind_at
+  kind_missing =
+      pick_cases (λ (o : Option Kind). o ≡ None → (length s < at + length_of (get_or s at 0)) ⊎ (7 < get_or s at 0))
+      (leb (at + length_of (get_or s at 0)) (length s)) (kind_of (get_or s at 0)) None
+      (λ e q. inr (unknown (get_or s at 0) q))
+      (λ e q. inl (leb-false _ _ e))
+
   pub kind_told : (k : Kind) (n : ℕ) → kind_of (get_or s at 0) ≡ Some k → n ≡ length_of (code k) → at < length s → then_some (leb n (length s - at)) k ≡ kind_at s at
   kind_told k n q l h = by (leb n (length s - at)) refl
     where
@@ -53,13 +66,27 @@ module _ (s : List ℕ) (at : ℕ) where
       by true e = sym (kind_whole k (subst (λ x. at + length_of x ≤ length s) (sym is) (omega (arith, leb-true _ _ e, l, h))) is)
       by false e = sym (kind_short (subst (λ x. length s < at + length_of x) (sym is) (omega (arith, leb-false _ _ e, l, h))))
 
+  -- where a command's byte stands, whether the command is whole
+  module _ (k : Kind) (n : ℕ) (r : get_or s at 0 ≡ code k) (l : n ≡ length_of (code k)) (h : at < length s) where
+    stands_by : {b : Bool} → leb n (length s - at) ≡ b → kind_at s at ≡ then_some b k
+    stands_by e = sym (kind_told k n (ap kind_of r ∙ kind_known k) l h) ∙ ap (λ (t : Bool). then_some t k) e
+
+    pub stands_whole : leb n (length s - at) ≡ true → kind_at s at ≡ Some k
+    stands_whole e = stands_by e
+
+    pub stands_cut : leb n (length s - at) ≡ false → kind_at s at ≡ Some k → ⊥
+    stands_cut e q = missing (sym (stands_by e) ∙ q)
+
   pub stands : (k : Kind) → kind_at s at ≡ Some k → (get_or s at 0 ≡ code k) × (at + length_of (code k) ≤ length s)
   unfolding kind_at
   stands k =
       pick_cases (λ (o : Option Kind). o ≡ Some k → (get_or s at 0 ≡ code k) × (at + length_of (code k) ≤ length s))
       (leb (at + length_of (get_or s at 0)) (length s)) (kind_of (get_or s at 0)) None
       (λ e q. let w = kind_code (get_or s at 0) k q in (w, subst (λ n. at + length_of n ≤ length s) w (leb-true _ _ e)))
-      (λ e q. absurd (subst there (sym q) tt))
+      (λ e q. absurd (missing q))
+
+  pub stands_other : (k : Kind) → eqb (get_or s at 0) (code k) ≡ false → kind_at s at ≡ Some k → ⊥
+  stands_other k e q = eqb-false (get_or s at 0) (code k) e (stands k q).0
 
   -- the byte of the command that stands whole, else 0, is that of its kind
   pub kind_byte : (k : Kind) → kind_at s at ≡ Some k → pick (leb (at + length_of (get_or s at 0)) (length s)) (get_or s at 0) 0 ≡ code k

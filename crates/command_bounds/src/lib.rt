@@ -2,7 +2,7 @@
 // command of `strip_format::command_at` answers.
 #![tactic(auto)]
 
-ghost use Rattle.std.specs.Prelude.{◌≡◌};
+ghost use Rattle.std.specs.Prelude.{◌≡◌, true, false, Some};
 ghost use Rattle.commands.specs.Bounds as Bounds;
 ghost use Rattle.strip_format.specs.Format.{command_at};
 ghost use Rattle.command_bounds.specs.Kinds.{kind_at};
@@ -16,6 +16,17 @@ pub fn kind_at(s: &[u8], at: usize) -> Option<Kind>
 {
     let kind = Kind::try_from(*s.get(at)?).ok()?;
     (kind.length() <= s.len() - at).then_some(kind)
+}
+
+// Whether a command of this kind stands whole at an offset: one byte is compared, where `kind_at` tells all kinds apart.
+pub fn stands(s: &[u8], at: usize, kind: Kind) -> bool
+    ensures whole { result ≡ true → kind_at s.now at ≡ Some kind }
+    ensures else_not { result ≡ false → kind_at s.now at ≡ Some kind → ⊥ }
+{
+    if s.len() <= at {
+        return false;
+    }
+    Kind::try_from(s[at]) == Ok(kind) && kind.length() <= s.len() - at
 }
 
 // What stands for an affine where no drawing command stands whole. No Option: a function of every offset has an answer at each.

@@ -1,43 +1,45 @@
--- A row of finite floats, from its front. Assumes nothing.
-use Prim.Native.Nat.{ℕ, zero, suc, ◌+◌, ◌-◌, ◌*◌, ◌<◌, ◌≤◌}
+-- A row of finite floats, from its front and by place. Assumes nothing.
+use Prim.Native.Nat.{ℕ, zero, suc, ◌+◌, ◌*◌, ◌<◌}
 use mathlib.Core.List.{List}
-use mathlib.Core.Path.{◌≡◌, refl, sym, ◌∙◌}
-use mathlib.Core.Bool.{Bool, true, false}
+use mathlib.Core.Path.{◌≡◌, refl, sym, subst}
+use mathlib.Core.Bool.{Bool, true, false, ◌&&◌, false≢true}
 use native.Mathlib.Omega.{arith}
 use lib.Ieee.{binary64, of_bits}
 use lib.Ieee.Scale.{finite}
 use Rattle.little_endian.specs.Words.{u64_at}
+use Rattle.strip_format.specs.Finite.{AllFinite}
 use Rattle.operand_checks.specs.Operands.{finite_from}
 
-pub finite_none : (s : List ℕ) (at n : ℕ) → n ≤ 0 → finite_from s at n ≡ true
-unfolding finite_from
-finite_none s at zero h = refl
-finite_none s at (suc n) h = absurd (omega arith)
+pub both : (a b : Bool) → (a && b) ≡ true → (a ≡ true) × (b ≡ true)
+both true b e = (refl, e)
+both false b e = absurd (false≢true e)
 
-pub finite_more : (s : List ℕ) (at n : ℕ) → 0 < n → finite (of_bits binary64 (u64_at s at)) ≡ true → finite_from s at n ≡ finite_from s (at + 8) (n - 1)
-unfolding finite_from
-finite_more s at zero h e = absurd (omega arith)
-finite_more s at (suc n) h e = let p : suc n - 1 ≡ n = omega arith in rw (e, p)
+module _ (s : List ℕ) where
+  -- the float at a place of a row that is finite
+  pub finite_at : (at n k : ℕ) → finite_from s at n ≡ true → k < n → (p : ℕ) → p ≡ at + 8 * k → finite (of_bits binary64 (u64_at s p)) ≡ true
+  unfolding finite_from
+  finite_at at zero k e h p q = absurd (omega (arith, h))
+  finite_at at (suc n) zero e h p q = subst (λ (z : ℕ). finite (of_bits binary64 (u64_at s z)) ≡ true) (omega (arith, q)) (both _ _ e).0
+  finite_at at (suc n) (suc k) e h p q = finite_at (at + 8) n k (both (finite (of_bits binary64 (u64_at s at))) (finite_from s (at + 8) n) e).1 (omega (arith, h)) p (omega (arith, q))
 
-pub finite_stop : (s : List ℕ) (at n : ℕ) → 0 < n → finite (of_bits binary64 (u64_at s at)) ≡ false → finite_from s at n ≡ false
-unfolding finite_from
-finite_stop s at zero h e = absurd (omega arith)
-finite_stop s at (suc n) h e = rw e
+  -- a row is finite where each of its floats is
+  pub from_all : (at n : ℕ) → AllFinite s at n → finite_from s at n ≡ true
+  unfolding finite_from AllFinite
+  from_all at zero w = refl
+  from_all at (suc n) w = rw (at_place (at + 8 * 0) at (omega arith) (w 0 (omega arith))) (from_all (at + 8) n (λ i l. at_place (at + 8 * suc i) (at + 8 + 8 * i) (omega arith) (w (suc i) (omega (arith, l)))))
+    where
+      at_place : (p q : ℕ) → p ≡ q → finite (of_bits binary64 (u64_at s p)) ≡ true → finite (of_bits binary64 (u64_at s q)) ≡ true
+      at_place p q e = subst (λ (z : ℕ). finite (of_bits binary64 (u64_at s z)) ≡ true) e
 
--- the same by place: what is left behind the first k decides as the whole does
-module _ (s : List ℕ) (at n k : ℕ) (whole : Bool) (left : finite_from s (at + 8 * k) (n - k) ≡ whole) where
-  pub left_next : k < n → finite (of_bits binary64 (u64_at s (at + 8 * k))) ≡ true → finite_from s (at + 8 * (k + 1)) (n - (k + 1)) ≡ whole
-  left_next h e =
-      let place : at + 8 * k + 8 ≡ at + 8 * (k + 1) = omega arith in
-      let count : n - k - 1 ≡ n - (k + 1) = omega arith in
-      sym (rw (sym place, sym count) (finite_more s (at + 8 * k) (n - k) (omega arith) e)) ∙ left
+  pub all_from : (at n : ℕ) → finite_from s at n ≡ true → AllFinite s at n
+  unfolding AllFinite
+  all_from at n e i l = finite_at at n i e l (at + 8 * i) refl
 
-  pub left_stops : k < n → finite (of_bits binary64 (u64_at s (at + 8 * k))) ≡ false → false ≡ whole
-  left_stops h e = sym (finite_stop s (at + 8 * k) (n - k) (omega arith) e) ∙ left
-
-  pub left_none : n ≤ k → true ≡ whole
-  left_none h = sym (finite_none s (at + 8 * k) (n - k) (omega arith)) ∙ left
-
--- a test of a number that was read, as one of the bytes
-pub of_word : {r b : Bool} {u v : ℕ} → r ≡ finite (of_bits binary64 u) → u ≡ v → r ≡ b → finite (of_bits binary64 v) ≡ b
-of_word p q t = cc
+  -- a test that tells one tells the other
+  pub finite_told : (at n : ℕ) {b : Bool} → (b ≡ true → AllFinite s at n) → (AllFinite s at n → b ≡ true) → b ≡ finite_from s at n
+  finite_told at n f g = alike _ (finite_from s at n) (λ e. from_all at n (f e)) (λ e. g (all_from at n e))
+    where
+      alike : (b t : Bool) → (b ≡ true → t ≡ true) → (t ≡ true → b ≡ true) → b ≡ t
+      alike true t p q = sym (p refl)
+      alike false true p q = q refl
+      alike false false p q = refl

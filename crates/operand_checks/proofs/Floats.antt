@@ -1,23 +1,17 @@
 -- Operands that pass: the floats of a command's affine and box are finite, so that they may be read without a test. Assumes nothing.
-use Prim.Native.Nat.{ℕ, zero, suc, ◌+◌, ◌*◌, ◌≤◌, ◌<◌}
+use Prim.Native.Nat.{ℕ, ◌+◌, ◌*◌, ◌≤◌}
 use mathlib.Core.List.{List}
 use mathlib.Core.Path.{◌≡◌, refl, subst}
-use mathlib.Core.Bool.{Bool, true, false, ◌&&◌, false≢true}
+use mathlib.Core.Bool.{Bool, true, false, ◌&&◌}
 use native.Mathlib.Omega.{arith}
-use lib.Ieee.{binary64, of_bits}
-use lib.Ieee.Scale.{finite}
 use lib.ListN.{get_or}
 use Rattle.std.specs.Prelude.{Result, Ok, Err}
 use Rattle.refusals.specs.declared.Fault.{Fault}
 use Rattle.lists.specs.Pick.{pick}
 use Rattle.refusals.specs.declared.Fault.TheVariants.{UnknownCode}
-use Rattle.little_endian.specs.Words.{u64_at}
 use Rattle.strip_format.specs.Finite.{FourFinite}
+use Rattle.operand_checks.proofs.Finite.{both, finite_at}
 use Rattle.operand_checks.specs.Operands.{finite_from, finite_f32, finite_stroke, finite_run, finite_glyph, codes_fit, floats_pass, operands_at}
-
-both : (a b : Bool) → (a && b) ≡ true → (a ≡ true) × (b ≡ true)
-both true b e = (refl, e)
-both false b e = absurd (false≢true e)
 
 err_not_ok : {f : Fault} → ◌≡◌ {A = Result (Unit {0}) Fault} (Err f) (Ok tt) → ⊥
 err_not_ok e = subst Turned e tt
@@ -36,21 +30,14 @@ codes_pass true t e = finite_pass t e
 codes_pass false t e = absurd (err_not_ok e)
 
 module _ (s : List ℕ) where
-  -- the float at a place of a row that is finite
-  finite_at : (at n k : ℕ) → finite_from s at n ≡ true → k < n → (p : ℕ) → p ≡ at + 8 * k → finite (of_bits binary64 (u64_at s p)) ≡ true
-  unfolding finite_from
-  finite_at at zero k e h p q = absurd (omega (arith, h))
-  finite_at at (suc n) zero e h p q = subst (λ (z : ℕ). finite (of_bits binary64 (u64_at s z)) ≡ true) (omega (arith, q)) (both _ _ e).0
-  finite_at at (suc n) (suc k) e h p q = finite_at (at + 8) n k (both (finite (of_bits binary64 (u64_at s at))) (finite_from s (at + 8) n) e).1 (omega (arith, h)) p (omega (arith, q))
-
   -- four of them
   four_at : (at n k p : ℕ) → finite_from s at n ≡ true → k + 4 ≤ n → p ≡ at + 8 * k → FourFinite s p
   four_at at n k p e h q =
       record {
-        first = finite_at at n k e (omega (arith, h)) p q;
-        second = finite_at at n (k + 1) e (omega (arith, h)) (p + 8) (omega (arith, q));
-        third = finite_at at n (k + 2) e (omega (arith, h)) (p + 16) (omega (arith, q));
-        fourth = finite_at at n (k + 3) e (omega (arith, h)) (p + 24) (omega (arith, q));
+        first = finite_at s at n k e (omega (arith, h)) p q;
+        second = finite_at s at n (k + 1) e (omega (arith, h)) (p + 8) (omega (arith, q));
+        third = finite_at s at n (k + 2) e (omega (arith, h)) (p + 16) (omega (arith, q));
+        fourth = finite_at s at n (k + 3) e (omega (arith, h)) (p + 24) (omega (arith, q));
       }
 
   module _ (at : ℕ) where

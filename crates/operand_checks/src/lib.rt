@@ -9,32 +9,20 @@ ghost use Rattle.operand_checks.specs.Operands as Operands;
 use refusals::Fault;
 use strip_format::Kind;
 
-// Whether the n f64 from an offset on, whose bytes are all there, are finite: none is asked for its place.
-fn finite_inside(s: &[u8], at: usize, n: usize) -> bool
-    requires { at + 8 * n ≤ length s.now }
-    ensures { result ≡ Operands.finite_from s.now at n }
-{
-    for k in 0..n {
-        if !little_endian::finite64_inside(s, at + 8 * k) {
-            return false;
-        }
-    }
-    true
-}
-
-// The same where bytes may be missing: the floats that stand whole, and the one that the end cuts. Past it all are 0.
+// Whether the n f64 from an offset on are finite: those that stand whole, and the one that the end cuts. Past it all are 0.
 fn finite_from(s: &[u8], at: usize, n: usize) -> bool
     requires { at + 8 * n < 2 ^ 64 }
     ensures { result ≡ Operands.finite_from s.now at n }
 {
     if at + 8 * n <= s.len() {
-        return finite_inside(s, at, n);
+        return strip_format::all_finite(s, at, n);
     }
     if s.len() <= at {
         return true;
     }
     let whole = (s.len() - at) / 8;
-    finite_inside(s, at, whole) && little_endian::finite64(little_endian::u64_at(s, at + 8 * whole))
+    strip_format::all_finite(s, at, whole)
+        && little_endian::finite64(little_endian::u64_at(s, at + 8 * whole))
 }
 
 fn finite_f32(s: &[u8], at: usize) -> bool
@@ -57,14 +45,6 @@ fn finite_run(s: &[u8], at: usize) -> bool
     ensures { result ≡ Operands.finite_run s.now at }
 {
     finite_f32(s, at + 9) && finite_from(s, at + 13, 6) && finite_from(s, at + 69, 4)
-}
-
-#[tactic(auto, unfolding(crate::specs::Operands::finite_glyph))]
-fn finite_glyph(s: &[u8], at: usize) -> bool
-    requires { at + 45 < 2 ^ 64 }
-    ensures { result ≡ Operands.finite_glyph s.now at }
-{
-    finite_f32(s, at + 5) && finite_f32(s, at + 9) && finite_from(s, at + 13, 4)
 }
 
 #[tactic(auto, unfolding(crate::specs::Operands::codes_fit))]
@@ -100,7 +80,7 @@ fn operands_inside(s: &[u8], at: usize, kind: Kind) -> Result<(), Fault>
             }
         }
         Kind::Run => floats_pass(finite_run(s, at)),
-        Kind::Glyph => floats_pass(finite_glyph(s, at)),
+        Kind::Glyph => floats_pass(glyph_passes(s, at)),
         Kind::Scene => floats_pass(finite_from(s, at + 25, 10)),
     }
 }
@@ -118,8 +98,7 @@ pub fn operands(s: &[u8], at: usize, byte: u8) -> Result<(), Fault>
     }
 }
 
-// Whether the floats of the GLYPH at an offset are finite. One that stands whole is tested here, so that this is compiled into the loop
-// over a run's glyphs.
+// Whether the floats of the GLYPH at an offset are finite.
 #[tactic(auto, unfolding(crate::specs::Operands::finite_glyph), using(crate::proofs::Past::glyph_past))]
 pub fn glyph_passes(s: &[u8], at: usize) -> bool
     ensures { result ≡ Operands.finite_glyph s.now at }
@@ -127,10 +106,5 @@ pub fn glyph_passes(s: &[u8], at: usize) -> bool
     if s.len() <= at {
         return true;
     }
-    if s.len() - at < 45 {
-        return finite_glyph(s, at);
-    }
-    little_endian::finite32_inside(s, at + 5)
-        && little_endian::finite32_inside(s, at + 9)
-        && finite_inside(s, at + 13, 4)
+    finite_f32(s, at + 5) && finite_f32(s, at + 9) && finite_from(s, at + 13, 4)
 }

@@ -1,4 +1,5 @@
 -- Laws of steps and of reading, for the crates above.
+mod Due
 pub mod Effects
 pub mod Moves
 pub mod Settled

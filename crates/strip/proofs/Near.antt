@@ -34,9 +34,9 @@ module _ (s : List ℕ) where
   near_passes st r w =
       let t : affine_at s (st.run + 13) ≡ transform_of (command_at s st.run) = ap transform_of (is_run s st.run r.0).0 in
       record {
-        due = w.0;
-        operands = rw (w.1, w.2, four_from (st.at + 13) (near_finite s (st.at + 13) w.3));
-        corners = ap (λ (x : Affine). finite_corners x (rect_at s (st.at + 13))) (sym t) ∙ near_corners (affine_at s (st.run + 13)) (near_entries s (st.run + 13) r.1 r.2) (rect_at s (st.at + 13)) (near_edges s (st.at + 13) w.3);
+        due = w.0.0;
+        operands = rw (w.0.1, w.0.2, four_from (st.at + 13) (near_finite s (st.at + 13) w.1));
+        corners = ap (λ (x : Affine). finite_corners x (rect_at s (st.at + 13))) (sym t) ∙ near_corners (affine_at s (st.run + 13)) (near_entries s (st.run + 13) r.1 r.2) (rect_at s (st.at + 13)) (near_edges s (st.at + 13) w.1);
       }
 
   -- so it is a step that only moves the cursor

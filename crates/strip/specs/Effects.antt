@@ -68,6 +68,10 @@ pub record GlyphDue (s : List ℕ) (st : Cursor) : Type 0 where
   pub byte : get_or s st.at 0 ≡ 6
   pub count : st.glyphs < 16384
 
+-- its place is finite
+abbrev pub GlyphPlaced : List ℕ → Cursor → Type 0
+GlyphPlaced s st = GlyphDue s st × (finite_f32 s (st.at + 5) ≡ true) × (finite_f32 s (st.at + 9) ≡ true)
+
 -- such a GLYPH passes, by this affine
 pub record GoesOn (s : List ℕ) (st : Cursor) (t : Affine) : Type 0 where
   pub due : GlyphDue s st
@@ -76,7 +80,7 @@ pub record GoesOn (s : List ℕ) (st : Cursor) (t : Affine) : Type 0 where
 
 -- its floats are finite, and those of its box below 2 ^ 500; so are those of a RUN's affine
 abbrev pub NearGoesOn : List ℕ → Cursor → Type 0
-NearGoesOn s st = GlyphDue s st × (finite_f32 s (st.at + 5) ≡ true) × (finite_f32 s (st.at + 9) ≡ true) × FourNear s (st.at + 13)
+NearGoesOn s st = GlyphPlaced s st × FourNear s (st.at + 13)
 
 abbrev pub NearRun : List ℕ → ℕ → Type 0
 NearRun s at = (kind_at s at ≡ Some Run) × FourNear s (at + 13) × FourNear s (at + 13 + 16)

@@ -9,7 +9,7 @@ ghost use Rattle.strip_format.specs.Finite.{FourFinite};
 ghost use Rattle.strip.specs.Steps as Steps;
 ghost use Rattle.strip.specs.Reading as Reading;
 ghost use Rattle.strip.specs.Effects as Effects;
-ghost use Rattle.strip.specs.Effects.{settled, drawn_or_many, last_effect, Stands, DrawsAt, affine_offset, rect_offset, OwnBounds, GlyphDue, GoesOn, NearGoesOn, NearRun, Passes};
+ghost use Rattle.strip.specs.Effects.{settled, drawn_or_many, last_effect, Stands, DrawsAt, affine_offset, rect_offset, OwnBounds, GlyphDue, GoesOn, NearGoesOn, NearRun, GlyphPlaced, Passes};
 
 use affine::Affine;
 use geometry::Rect;
@@ -357,41 +357,46 @@ pub fn take_step(s: &[u8], st: Cursor) -> Result<Step, Refusal>
 fn glyph_due(s: &[u8], st: Cursor) -> bool
     ensures { result ≡ true → GlyphDue s.now st }
 {
-    match command_bounds::kind_at(s, st.at) {
-        Some(Kind::Glyph) => 2 <= st.due && st.glyphs < MOST_GLYPHS,
-        _ => false,
-    }
+    2 <= st.due && st.glyphs < MOST_GLYPHS && command_bounds::stands(s, st.at, Kind::Glyph)
 }
 
-// True only where such a glyph passes, by the run's affine.
-fn glyph_goes_on(s: &[u8], st: Cursor, transform: Affine) -> bool
-    ensures { result ≡ true → GoesOn s.now st transform }
-{
-    glyph_due(s, st)
-        && operand_checks::glyph_passes(s, st.at)
-        && transform.finite_corners(strip_format::rect_finite(s, st.at + 13))
-}
-
-// True only where the floats of such a glyph are finite, and those of its box below 2^500.
-fn near_goes_on(s: &[u8], st: Cursor) -> bool
-    ensures { result ≡ true → NearGoesOn s.now st }
+// True only where the place of such a glyph is finite. Tested here and not by `operand_checks::glyph_passes`, which asks for each float
+// whether it stands whole.
+#[tactic(auto, using(crate::proofs::Due::due_inside))]
+fn glyph_placed(s: &[u8], st: Cursor) -> bool
+    ensures { result ≡ true → GlyphPlaced s.now st }
 {
     glyph_due(s, st)
         && little_endian::finite32_inside(s, st.at + 5)
         && little_endian::finite32_inside(s, st.at + 9)
-        && strip_format::near_rect(s, st.at + 13)
+}
+
+// True only where such a glyph passes, by the run's affine.
+#[tactic(auto, using(crate::proofs::Due::placed_inside, crate::proofs::Due::placed_goes_on, strip_format::proofs::Floats::four_finite))]
+fn glyph_goes_on(s: &[u8], st: Cursor, transform: Affine) -> bool
+    ensures { result ≡ true → GoesOn s.now st transform }
+{
+    glyph_placed(s, st)
+        && strip_format::all_finite(s, st.at + 13, 4)
+        && transform.finite_corners(strip_format::rect_finite(s, st.at + 13))
+}
+
+// True only where the floats of such a glyph are finite, and those of its box below 2^500.
+#[tactic(auto, using(crate::proofs::Due::placed_inside))]
+fn near_goes_on(s: &[u8], st: Cursor) -> bool
+    ensures { result ≡ true → NearGoesOn s.now st }
+{
+    glyph_placed(s, st) && strip_format::near_rect(s, st.at + 13)
 }
 
 // True only where a RUN stands at an offset whose affine's entries are below 2^500.
+#[tactic(auto, using(crate::proofs::Due::run_inside))]
 fn near_run(s: &[u8], at: usize) -> bool
     ensures { result ≡ true → NearRun s.now at }
 {
-    match command_bounds::kind_at(s, at) {
-        Some(Kind::Run) => {
-            strip_format::near_rect(s, at + 13) && strip_format::near_rect(s, at + 13 + 16)
-        }
-        _ => false,
-    }
+    command_bounds::stands(s, at, Kind::Run)
+        && strip_format::near_rect(s, at + 13)
+        && strip_format::near_rect(s, at + 13 + 16)
 }
 
 // Past the glyphs at the cursor that only move it, as far as they and their run are as near: such an affine takes no corner of such a

@@ -4,11 +4,10 @@ use mathlib.Core.Bool.{Bool, true, false, not, false≢true}
 use Prim.Native.Nat.{ℕ, ◌<◌, ◌≤◌}
 use native.Mathlib.Omega.{arith}
 use lib.Dec.{eqb}
-use borrow.Author.Tests.{eqb-true, ne_eqb}
+use borrow.Author.Tests.{eqb-true, eqb-false, ne_eqb}
 use Rattle.std.specs.Prelude.{Option, Some, None, Result, Ok, Err}
 use Rattle.std.specs.Result.{result_ok, result_eq}
 use Rattle.std.specs.Option.{option_eq}
-use Rattle.lists.specs.Pick.{pick}
 use Rattle.lists.proofs.Picks.{pick_cases}
 use Rattle.strip_format.specs.declared.Kind.{Kind}
 use Rattle.strip_format.specs.contracts.KindPartialEq.TheImpl as kinds
@@ -70,6 +69,26 @@ kind_code b k =
 
     one : (l : Kind) → eqb b (code l) ≡ true → Is (Some l)
     one l e q = eqb-true b (code l) e ∙ ap (λ (o : Option Kind). code (or_end o)) q
+
+-- a byte without a kind is no command's
+pub kind_missing : (b : ℕ) → kind_of b ≡ None → 7 < b
+unfolding kind_of
+kind_missing b =
+    pick_cases Is (eqb b 0) _ _ (λ e. here End)
+    λ e0. pick_cases Is (eqb b 1) _ _ (λ e. here Clip)
+    λ e1. pick_cases Is (eqb b 2) _ _ (λ e. here Pop)
+    λ e2. pick_cases Is (eqb b 3) _ _ (λ e. here Fill)
+    λ e3. pick_cases Is (eqb b 4) _ _ (λ e. here Stroke)
+    λ e4. pick_cases Is (eqb b 5) _ _ (λ e. here Run)
+    λ e5. pick_cases Is (eqb b 6) _ _ (λ e. here Glyph)
+    λ e6. pick_cases Is (eqb b 7) _ _ (λ e. here Scene)
+    (λ e7 q. omega (arith, eqb-false b 0 e0, eqb-false b 1 e1, eqb-false b 2 e2, eqb-false b 3 e3, eqb-false b 4 e4, eqb-false b 5 e5, eqb-false b 6 e6, eqb-false b 7 e7))
+  where
+    Is : Option Kind → Type 0
+    Is o = o ≡ None → 7 < b
+
+    here : (l : Kind) → Is (Some l)
+    here l q = absurd (subst there q tt)
 
 -- what a byte is decoded to, without the byte that is no command's
 pub decoded : (b : ℕ) (r : Result Kind ℕ) (o : Option Kind) → Decodes b r → o ≡ result_ok r → kind_of b ≡ o

@@ -43,6 +43,10 @@ module _ (s : List ℕ) (at : ℕ) where
   finite_four w (suc (suc (suc zero))) l = w.fourth
   finite_four w (suc (suc (suc (suc i)))) l = absurd (omega arith)
 
+  pub four_finite : AllFinite s at 4 → FourFinite s at
+  unfolding AllFinite
+  four_finite w = record { first = written (at + 0) at (omega arith) (w 0 (omega arith)); second = w 1 (omega arith); third = w 2 (omega arith); fourth = w 3 (omega arith) }
+
   -- those of an affine, of which the second test covers the last two
   pub finite_six : FourFinite s at → FourFinite s (at + 16) → AllFinite s at 6
   finite_six w v = finite_more 5 (finite_more 4 (finite_four w) (written (at + 16 + 16) (at + 32) (omega arith) v.third)) (written (at + 16 + 24) (at + 40) (omega arith) v.fourth)

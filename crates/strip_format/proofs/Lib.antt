@@ -6,4 +6,4 @@ pub mod Commands
 pub mod Past
 pub mod Alike
 pub mod Numbers
-mod Floats
+pub mod Floats

@@ -95,12 +95,14 @@ fn floats_at<const N: usize>(s: &[u8], at: usize) -> [f64; N]
     floats
 }
 
-// True only where the N f64 from an offset on are finite. A loop: tried as `(0..N).all(..)`, and the proof doesn't close.
-fn all_finite<const N: usize>(s: &[u8], at: usize) -> bool
-    requires { at + 8 * N ≤ length s.now }
-    ensures { result ≡ true → AllFinite s.now at N }
+// Whether the n f64 from an offset on, whose bytes are all there, are finite: none is asked for its place. A loop: tried as
+// `(0..n).all(..)`, and the proof doesn't close.
+pub fn all_finite(s: &[u8], at: usize, n: usize) -> bool
+    requires { at + 8 * n ≤ length s.now }
+    ensures passes { result ≡ true → AllFinite s.now at n }
+    ensures all { AllFinite s.now at n → result ≡ true }
 {
-    for i in 0..N {
+    for i in 0..n {
         if !little_endian::finite64_inside(s, at + 8 * i) {
             return false;
         }
@@ -126,7 +128,7 @@ fn floats_inside<const N: usize>(s: &[u8], at: usize) -> [f64; N]
     requires { (N ≤ 6) × (at + 8 * N ≤ length s.now) }
     ensures { FloatsFrom s.now at N result }
 {
-    if all_finite::<N>(s, at) {
+    if all_finite(s, at, N) {
         return floats_finite(s, at);
     }
     floats_at::<N>(s, at)

@@ -1,7 +1,5 @@
 -- `command_bounds::kind_at` meets its contract: a byte stands there, it is a command's, and the command is whole. Assumes nothing.
-use lib.ListN.{get_or}
-use native.Mathlib.Omega.{arith}
-use mathlib.Core.Path.{sym, ap, subst, ◌∙◌}
+use mathlib.Core.Path.{sym, ap, ◌∙◌}
 use Rattle.strip_format.specs.Kinds.{kind_of}
 use Rattle.strip_format.proofs.Codes.{decoded}
 use Rattle.command_bounds.proofs.Standing.{kind_past, kind_none, kind_told}

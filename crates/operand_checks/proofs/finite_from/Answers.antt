@@ -5,14 +5,18 @@ use Rattle.std.specs.Float.{binary64}
 use Rattle.std.specs.Float.Ieee.{of_bits}
 use Rattle.std.specs.Float.Ieee.Scale.{finite}
 use Prim.Native.Nat.{ℕ}
+use Rattle.operand_checks.proofs.Finite.{finite_told}
 use Rattle.operand_checks.proofs.Past.{from_past, cut_on, cut_off}
 use Rattle.operand_checks.proofs.finite_from.Goals as goal
 
 pub returns-then-s-at : goal.returns-then-s-at
 returns-then-s-at c = sym (from_past _ _ _ c.if-s-at.true)
 
-pub returns-then-finite_inside : goal.returns-then-finite_inside
-returns-then-finite_inside c = c.finite64.ensures ∙ ap (λ (u : ℕ). finite (of_bits binary64 u)) c.u64_at.ensures ∙ cut_on _ _ _ _ (omega (arith, c.if-s-at.false)) (omega (arith, c.if-at-n.false, c.if-s-at.false)) c.finite_inside-2.ensures c.if-finite_inside.true
+pub returns-then-at-n : goal.returns-then-at-n
+returns-then-at-n c = finite_told _ _ _ c.all_finite.ensures.passes c.all_finite.ensures.all
 
-pub returns-else-finite_inside : goal.returns-else-finite_inside
-returns-else-finite_inside c = cut_off _ _ _ _ (omega (arith, c.if-s-at.false)) (omega (arith, c.if-at-n.false, c.if-s-at.false)) c.finite_inside-2.ensures c.if-finite_inside.false
+pub returns-then-all_finite : goal.returns-then-all_finite
+returns-then-all_finite c = c.finite64.ensures ∙ ap (λ (u : ℕ). finite (of_bits binary64 u)) c.u64_at.ensures ∙ cut_on _ _ _ _ (omega (arith, c.if-s-at.false)) (omega (arith, c.if-at-n.false, c.if-s-at.false)) (finite_told _ _ _ c.all_finite-2.ensures.passes c.all_finite-2.ensures.all) c.if-all_finite.true
+
+pub returns-else-all_finite : goal.returns-else-all_finite
+returns-else-all_finite c = cut_off _ _ _ _ (omega (arith, c.if-s-at.false)) (omega (arith, c.if-at-n.false, c.if-s-at.false)) (finite_told _ _ _ c.all_finite-2.ensures.passes c.all_finite-2.ensures.all) c.if-all_finite.false
