@@ -46,9 +46,9 @@ pub fn transform_at(s: &[u8], at: usize) -> Affine
         return NONE;
     };
     match kind {
-        Kind::Fill | Kind::Stroke => strip_format::affine_inside(s, at + 41),
-        Kind::Run => strip_format::affine_inside(s, at + 13),
-        Kind::Scene => strip_format::affine_inside(s, at + 25),
+        Kind::Fill | Kind::Stroke | Kind::Run | Kind::Scene => {
+            strip_format::affine_inside(s, strip_format::affine_offset(at, kind))
+        }
         _ => NONE,
     }
 }

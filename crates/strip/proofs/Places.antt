@@ -17,14 +17,14 @@ use Rattle.commands.specs.declared.Stroke.{Stroke}
 use Rattle.commands.specs.declared.DrawCommand.{DrawCommand}
 use Rattle.commands.specs.Strokes.{stroke_bounds_inflation}
 use Rattle.commands.specs.Bounds.{transform_of, local_with}
-use Rattle.strip_format.specs.Format.{rect_at, affine_at, stroke_at, fill_at, stroke_path_at, run_at, scene_at, command_at}
+use Rattle.strip_format.specs.Format.{rect_at, affine_at, stroke_at, fill_at, stroke_path_at, run_at, scene_at, command_at, affine_offset, rect_offset}
 use Rattle.strip_format.specs.Finite.{FourFinite}
 use Rattle.strip_format.proofs.Lengths.{length_fill, length_stroke, length_run, length_scene}
 use Rattle.strip_format.proofs.Commands.{command_fill, command_stroke, command_run, command_scene}
 use Rattle.operand_checks.specs.Operands.{operands_at}
 use Rattle.operand_checks.proofs.Floats.{clip_finite, glyph_finite, glyph_floats, fill_finite, stroke_finite, run_finite, scene_finite}
 use Rattle.strip.specs.Steps.{announced, Draws}
-use Rattle.strip.specs.Effects.{Stands, DrawsAt, affine_offset, rect_offset, OwnBounds}
+use Rattle.strip.specs.Effects.{Stands, DrawsAt, OwnBounds}
 
 -- the boxes of a CLIP and of a GLYPH
 module _ (s : List ℕ) (at b : ℕ) (w : Stands s at b) where

@@ -49,13 +49,6 @@ pub record DrawsAt (s : List ℕ) (at b : ℕ) : Type 0 where
   pub stands : Stands s at b
   pub draws : Draws b
 
--- where the affine of a drawing command stands, and where its box does: RUN, SCENE, then FILL and STROKE
-unfoldable pub affine_offset : ℕ → ℕ → ℕ
-affine_offset at b = pick (eqb b 5) (at + 13) (pick (eqb b 7) (at + 25) (at + 41))
-
-unfoldable pub rect_offset : ℕ → ℕ → ℕ
-rect_offset at b = pick (eqb b 5) (at + 69) (pick (eqb b 7) (at + 73) (at + 9))
-
 -- the box of the command at an offset before its transform, whatever the union of its glyph boxes
 abbrev pub OwnBounds : List ℕ → ℕ → Rect → Type 0
 OwnBounds s at box = (united : Rect) → box ≡ local_with (command_at s at) united

@@ -9,7 +9,7 @@ ghost use Rattle.strip_format.specs.Finite.{FourFinite};
 ghost use Rattle.strip.specs.Steps as Steps;
 ghost use Rattle.strip.specs.Reading as Reading;
 ghost use Rattle.strip.specs.Effects as Effects;
-ghost use Rattle.strip.specs.Effects.{settled, drawn_or_many, last_effect, Stands, DrawsAt, affine_offset, rect_offset, OwnBounds, GlyphDue, GoesOn, NearGoesOn, NearRun, GlyphPlaced, Passes};
+ghost use Rattle.strip.specs.Effects.{settled, drawn_or_many, last_effect, Stands, DrawsAt, OwnBounds, GlyphDue, GoesOn, NearGoesOn, NearRun, GlyphPlaced, Passes};
 
 use affine::Affine;
 use geometry::Rect;
@@ -215,38 +215,12 @@ impl Cursor {
     }
 }
 
-// Where the affine of a drawing command stands.
-#[tactic(auto, unfolding(crate::specs::Effects::affine_offset))]
-fn affine_offset(at: usize, kind: Kind) -> usize
-    requires { at + 41 < 2 ^ 64 }
-    ensures { result ≡ affine_offset at (code kind) }
-{
-    match kind {
-        Kind::Run => at + 13,
-        Kind::Scene => at + 25,
-        _ => at + 41,
-    }
-}
-
-// Where its box stands.
-#[tactic(auto, unfolding(crate::specs::Effects::rect_offset))]
-fn rect_offset(at: usize, kind: Kind) -> usize
-    requires { at + 73 < 2 ^ 64 }
-    ensures { result ≡ rect_offset at (code kind) }
-{
-    match kind {
-        Kind::Run => at + 69,
-        Kind::Scene => at + 73,
-        _ => at + 9,
-    }
-}
-
 // The affine of a drawing command. Its floats are known to be finite, since its operands passed: no float is tested twice.
 fn drawn_transform(s: &[u8], at: usize, kind: Kind) -> Affine
     requires { DrawsAt s.now at (code kind) }
     ensures { result ≡ transform_of (command_at s.now at) }
 {
-    strip_format::affine_finite(s, affine_offset(at, kind))
+    strip_format::affine_finite(s, strip_format::affine_offset(at, kind))
 }
 
 // The box of a drawing command that announces no glyph, before its transform. A STROKE's is inflated.
@@ -254,7 +228,7 @@ fn drawn_bounds(s: &[u8], at: usize, kind: Kind) -> Rect
     requires { DrawsAt s.now at (code kind) × (Steps.announced s.now at (code kind) ≡ 0) }
     ensures { OwnBounds s.now at result }
 {
-    let bounds = strip_format::rect_finite(s, rect_offset(at, kind));
+    let bounds = strip_format::rect_finite(s, strip_format::rect_offset(at, kind));
     match kind {
         Kind::Stroke => {
             let inflation = commands::stroke_bounds_inflation(strip_format::stroke_at(s, at + 97));

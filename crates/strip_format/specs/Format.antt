@@ -19,6 +19,13 @@ use Rattle.commands.specs.declared.DrawCommand.TheVariants.{FillPath, StrokePath
 unfoldable pub length_of : ℕ → ℕ
 length_of b = pick (eqb b 1) 33 (pick (eqb b 3) 97 (pick (eqb b 4) 124 (pick (eqb b 5) 103 (pick (eqb b 6) 45 (pick (eqb b 7) 105 1)))))
 
+-- where the affine of a drawing command stands, and where its box does: RUN, SCENE, then FILL and STROKE
+unfoldable pub affine_offset : ℕ → ℕ → ℕ
+affine_offset at b = pick (eqb b 5) (at + 13) (pick (eqb b 7) (at + 25) (at + 41))
+
+unfoldable pub rect_offset : ℕ → ℕ → ℕ
+rect_offset at b = pick (eqb b 5) (at + 69) (pick (eqb b 7) (at + 73) (at + 9))
+
 -- ---- operands
 abbrev pub rect_at : List ℕ → ℕ → Rect
 rect_at s at = record { x0 = f64_at s at; y0 = f64_at s (at + 8); x1 = f64_at s (at + 16); y1 = f64_at s (at + 24) }

@@ -80,6 +80,32 @@ pub fn length_of(byte: u8) -> usize
     }
 }
 
+// Where the affine of a drawing command stands.
+#[tactic(auto, unfolding(crate::specs::Format::affine_offset))]
+pub fn affine_offset(at: usize, kind: Kind) -> usize
+    requires { at + 41 < 2 ^ 64 }
+    ensures { result ≡ Format.affine_offset at (code kind) }
+{
+    match kind {
+        Kind::Run => at + 13,
+        Kind::Scene => at + 25,
+        _ => at + 41,
+    }
+}
+
+// Where its box stands.
+#[tactic(auto, unfolding(crate::specs::Format::rect_offset))]
+pub fn rect_offset(at: usize, kind: Kind) -> usize
+    requires { at + 73 < 2 ^ 64 }
+    ensures { result ≡ Format.rect_offset at (code kind) }
+{
+    match kind {
+        Kind::Run => at + 69,
+        Kind::Scene => at + 73,
+        _ => at + 9,
+    }
+}
+
 // The N f64 from an offset on, as many as a box or an affine has. By itself, so that what calls it only for floats that are not finite stays small.
 #[inline(never)]
 fn floats_at<const N: usize>(s: &[u8], at: usize) -> [f64; N]
