@@ -4,8 +4,6 @@ use mathlib.Core.Bool.{true}
 use mathlib.Core.List.{List}
 use Prim.Native.Nat.{ℕ, ◌+◌}
 use native.Mathlib.Omega.{arith}
-use Rattle.std.specs.Prelude.{Ok}
-use Rattle.geometry.specs.declared.Rect.{Rect}
 use Rattle.affine.specs.declared.Affine.{Affine}
 use Rattle.affine.specs.Affines.{finite_corners}
 use Rattle.affine.proofs.Near.{near_corners}
@@ -15,11 +13,10 @@ use Rattle.strip_format.specs.Finite.{FourFinite}
 use Rattle.strip_format.proofs.Near.{near_finite, near_edges, near_entries}
 use Rattle.command_bounds.proofs.Standing.{is_run}
 use Rattle.operand_checks.specs.Operands.{finite_from, finite_glyph}
+use Rattle.operand_checks.proofs.Floats.{glyph_finite}
 use Rattle.strip.specs.declared.Cursor.{Cursor}
-use Rattle.strip.specs.declared.Step.TheVariants.{Next}
-use Rattle.strip.specs.Steps.{glyph_read, step_at}
-use Rattle.strip.specs.Effects.{GoesOn, NearGoesOn, NearRun}
-use Rattle.strip.proofs.Settled.{goes_on, glyph_read_lem}
+use Rattle.strip.specs.Effects.{GoesOn, NearGoesOn, NearRun, OnlyMoves}
+use Rattle.strip.proofs.Settled.{goes_on, transform_is}
 
 module _ (s : List ℕ) where
   four_from : (at : ℕ) → FourFinite s at → finite_from s at 4 ≡ true
@@ -39,6 +36,9 @@ module _ (s : List ℕ) where
         corners = ap (λ (x : Affine). finite_corners x (rect_at s (st.at + 13))) (sym t) ∙ near_corners (affine_at s (st.run + 13)) (near_entries s (st.run + 13) r.1 r.2) (rect_at s (st.at + 13)) (near_edges s (st.at + 13) w.1);
       }
 
-  -- so it is a step that only moves the cursor
-  pub near_step : (run : ℕ) (st t : Cursor) {b : Rect} → NearRun s run → st.run ≡ run → NearGoesOn s st → b ≡ rect_at s (st.at + 13) → t ≡ glyph_read st b → step_at s st ≡ Ok (Next t)
-  near_step run st t r e w f g = goes_on s st (transform_of (command_at s st.run)) refl (near_passes st (subst (NearRun s) (sym e) r) w) ∙ ap (λ (x : Cursor). Ok (Next x)) (sym (glyph_read_lem st t _ _ f g))
+  -- so it only moves the cursor, as any glyph does that passes by its run's affine
+  pub passing_moves : (run : ℕ) (st : Cursor) {t : Affine} → t ≡ transform_of (command_at s run) → st.run ≡ run → GoesOn s st t → OnlyMoves s st
+  passing_moves run st e f w = record { due = w.due; box = glyph_finite s st.at w.operands; step = goes_on s st _ (transform_is s _ run st e f) w }
+
+  pub near_moves : (run : ℕ) (st : Cursor) → NearRun s run → st.run ≡ run → NearGoesOn s st → OnlyMoves s st
+  near_moves run st r f w = passing_moves st.run st refl refl (near_passes st (subst (NearRun s) (sym f) r) w)

@@ -9,7 +9,7 @@ use Rattle.affine.specs.declared.Affine.{Affine}
 use Rattle.affine.specs.Affines.{try_transform, finite_corners}
 use Rattle.commands.specs.Bounds.{local_with}
 use Rattle.strip_format.specs.Format.{length_of, rect_at, command_at}
-use Rattle.strip_format.specs.Finite.{FourNear}
+use Rattle.strip_format.specs.Finite.{FourFinite, FourNear}
 use Rattle.strip_format.specs.declared.Kind.TheVariants.{Run}
 use Rattle.command_bounds.specs.Kinds.{kind_at}
 use Rattle.operand_checks.specs.Operands.{finite_f32, finite_glyph, operands_at}
@@ -77,6 +77,12 @@ NearGoesOn s st = GlyphPlaced s st × FourNear s (st.at + 13)
 
 abbrev pub NearRun : List ℕ → ℕ → Type 0
 NearRun s at = (kind_at s at ≡ Some Run) × FourNear s (at + 13) × FourNear s (at + 13 + 16)
+
+-- a glyph that stands whole at the cursor, with a finite box, and only moves it
+pub record OnlyMoves (s : List ℕ) (st : Cursor) : Type 0 where
+  pub due : GlyphDue s st
+  pub box : FourFinite s (st.at + 13)
+  pub step : step_at s st ≡ Ok (Next (glyph_read st (rect_at s (st.at + 13))))
 
 -- n steps from st to t, each of which only moves the cursor
 unfoldable pub Moves : ℕ → List ℕ → Cursor → Cursor → Type 0

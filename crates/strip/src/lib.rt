@@ -9,7 +9,7 @@ ghost use Rattle.strip_format.specs.Finite.{FourFinite};
 ghost use Rattle.strip.specs.Steps as Steps;
 ghost use Rattle.strip.specs.Reading as Reading;
 ghost use Rattle.strip.specs.Effects as Effects;
-ghost use Rattle.strip.specs.Effects.{settled, drawn_or_many, last_effect, Stands, DrawsAt, OwnBounds, GlyphDue, GoesOn, NearGoesOn, NearRun, GlyphPlaced, Passes};
+ghost use Rattle.strip.specs.Effects.{settled, drawn_or_many, last_effect, Stands, DrawsAt, OwnBounds, GlyphDue, GoesOn, NearGoesOn, NearRun, GlyphPlaced, OnlyMoves, Passes};
 
 use affine::Affine;
 use geometry::Rect;
@@ -373,43 +373,37 @@ fn near_run(s: &[u8], at: usize) -> bool
         && strip_format::near_rect(s, at + 13 + 16)
 }
 
-// Past the glyphs at the cursor that only move it, as far as they and their run are as near: such an affine takes no corner of such a
-// box out of range, so that none is computed.
-fn pass_near(s: &[u8], st: Cursor) -> Cursor
+// Past the glyphs at the cursor that only move it, as long as a test that tells such a glyph finds one.
+fn pass_while<F: Fn(Cursor) -> bool>(s: &[u8], st: Cursor, goes_on: F) -> Cursor
+    requires callable { F.IsAlwaysCallable goes_on }
+    requires told { (c : Cursor) → c.run ≡ st.run → F.post goes_on c true → OnlyMoves s.now c }
     ensures { (result.run ≡ st.run) × Passes s.now st result }
 {
-    let run = st.run;
     let mut next = st;
-    if near_run(s, run) {
-        while near_goes_on(s, next) {
-            let at = next.at;
-            let bounds = strip_format::rect_finite(s, at + 13);
-            next = next.past_glyph(bounds);
-        }
+    while goes_on(next) {
+        let bounds = strip_format::rect_finite(s, next.at + 13);
+        next = next.past_glyph(bounds);
     }
     next
 }
 
-// Past the glyphs at the cursor that only move it: as many steps at once, with the run's affine read once for all of them.
+// Past the glyphs at the cursor that only move it: as many steps at once, with the run's affine read once for all of them. As far as they
+// and their run are near no corner is computed: such an affine takes no corner of such a box out of range.
 pub fn pass_glyphs(s: &[u8], st: Cursor) -> Cursor
     ensures { Passes s.now st result }
 {
-    let run = st.run;
     if st.due < 2 {
         return st;
     }
-    let near = pass_near(s, st);
-    if near.due < 2 {
-        return near;
+    let mut near = st;
+    if near_run(s, st.run) {
+        near = pass_while(s, st, |c| near_goes_on(s, c));
+        if near.due < 2 {
+            return near;
+        }
     }
-    let transform = command_bounds::transform_at(s, run);
-    let mut next = near;
-    while glyph_goes_on(s, next, transform) {
-        let at = next.at;
-        let bounds = strip_format::rect_finite(s, at + 13);
-        next = next.past_glyph(bounds);
-    }
-    next
+    let transform = command_bounds::transform_at(s, st.run);
+    pass_while(s, near, |c| glyph_goes_on(s, c, transform))
 }
 
 // Reads a strip from an offset to its END, and answers where it ended.
