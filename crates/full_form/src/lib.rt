@@ -89,15 +89,15 @@ fn write_plan(
     let Plan { rects, words, work } = plan;
     let FrameWork {
         commands_emitted,
-        pixels_transferred: pixels,
         regions_transferred: regions,
+        ..
     } = work;
     writeln!(
         out,
         "accepted\ncommands {commands_emitted}\nrectangles {rects}"
     )?;
     write_rects(out, front(&space.rects, rects.saturating_mul(4)))?;
-    writeln!(out, "{}", Totals { regions, pixels })?;
+    writeln!(out, "{}", Totals(work))?;
     write_regions(
         out,
         front(&space.regions, (regions as usize).saturating_mul(4)),
