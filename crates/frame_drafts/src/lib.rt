@@ -71,7 +71,7 @@ struct Changed {
     n: usize,
 }
 
-// Whether scratch holds so many items. Its slices stay slices as C lends them.
+// Whether scratch holds so many items. Its slices stay slices, as C lends them.
 #[tactic(auto, unfolding(plans::specs::Answers::items_fit))]
 fn items_fit(
     count: Items,
