@@ -20,7 +20,7 @@ pub struct Strips {
 }
 
 // The sizes that a header has, whatever they are.
-fn sizes_at(s: &[u8]) -> Screen
+pub fn sizes_at(s: &[u8]) -> Screen
     ensures { result ≡ Frame.sizes_at s.now }
 {
     Screen {

@@ -3,7 +3,7 @@ use Rattle.std.specs.Prelude.{Result, Ok, Err}
 use Rattle.refusals.specs.declared.Fault.TheVariants.{NoRoom}
 use Rattle.refusals.specs.declared.Refusal.{Refusal}
 use Rattle.refusals.specs.Table.{refused}
-use Rattle.std.proofs.Common.{◌≡◌, ℕ, ◌+◌, ◌-◌, ◌*◌, ◌≤◌, Bool, true, false, ltb, List, [], ◌∷◌, map, length, take, drop, length-drop, ◌/◌, sym, refl, ap, ◌∙◌, subst, arith, w64, Fits}
+use Rattle.std.proofs.Common.{◌≡◌, ℕ, ◌+◌, ◌-◌, ◌*◌, ◌≤◌, Bool, true, false, ltb, List, [], ◌∷◌, map, length, take, drop, length-drop, ◌/◌, sym, refl, ap, ◌∙◌, subst, arith}
 use lib.Ieee.{Float, binary64, of_bits, of_int}
 use Rattle.lists.proofs.Picks.{pick_cases}
 use Rattle.floats.specs.Whole.{whole}
@@ -35,12 +35,18 @@ use Rattle.frame_drafts.specs.declared.Entry.TheVariants.{First, Next}
 use Rattle.frame_drafts.specs.declared.Changed.{Changed}
 use Rattle.frame_drafts.specs.Scratch.{lent, on_strips, outcome, Roomy, StandsFor}
 use Rattle.frame_drafts.specs.Listing.{Stand}
+use Rattle.frame_drafts.specs.declared.Items.{Items as Counts}
+use Rattle.frame_drafts.specs.Counts.{count_both, items_of, items_of_both}
 use Rattle.frame_drafts.proofs.Holdings.{first_within, both_within, items_same, items_room, list_length, stored_boxes}
 use Rattle.frame_drafts.proofs.Judgements.{untrue, answered, no_items}
 
 -- what is lent for a call, with this scratch for its lists
 abbrev lent_for : Space → List ℕ → ℕ → ℕ → ℕ → Lent
 lent_for z glyphs R G W = lent z.boxes z.below z.items z.item_boxes glyphs R G W
+
+-- what was counted, as the items of an outcome
+abbrev of_counts : Counts → Items
+of_counts c = record { commands = c.commands; glyphs = c.glyphs; clips = c.clips }
 
 abbrev Meets : Lent → Outcome → Result Plan Refusal → List Float → List ℕ → List ℕ → Type 0
 Meets z o p rs gs ws = (p ≡ answer_of z o) × StandsFor p o rs gs ws
@@ -60,23 +66,29 @@ module _ (s : List ℕ) (z y : Space) (glyphs : List ℕ) (r : Result Strips Ref
     next_within : Within old × Within new
     next_within = both_within s r a both q
 
-    -- so the counts of both can be added
-    pub next_sums : Fits w64 (old.commands + new.commands) × (Fits w64 (old.glyphs + new.glyphs) × Fits w64 (old.clips + new.clips))
-    next_sums =
-        let o = next_within.0 in
-        let n = next_within.1 in
-        (record { fits = omega (arith, o.commands, n.commands) }, (record { fits = omega (arith, o.glyphs, n.glyphs) }, record { fits = omega (arith, o.clips, n.clips) }))
-
     abbrev items : Items
     items = record { commands = old.commands + new.commands; glyphs = old.glyphs + new.glyphs; clips = old.clips + new.clips }
 
-    module _ (t : Bool) (f : t ≡ items_fit (lent y.boxes y.below y.items y.item_boxes glyphs 0 0 0) (record { commands = old.commands + new.commands; glyphs = old.glyphs + new.glyphs; clips = old.clips + new.clips })) where
+    module _ (counts : Counts) (counted : counts ≡ items_of_both both) (t : Bool) (judges : t ≡ items_fit (lent y.boxes y.below y.items y.item_boxes glyphs 0 0 0) (of_counts counts)) where
+      -- no sum of two counts saturates
+      same_counts : of_counts counts ≡ items
+      same_counts =
+          let o = next_within.0 in
+          let n = next_within.1 in
+          let c : count_both old.commands new.commands ≡ old.commands + new.commands = omega (arith, o.commands, n.commands) in
+          let g : count_both old.glyphs new.glyphs ≡ old.glyphs + new.glyphs = omega (arith, o.glyphs, n.glyphs) in
+          let p : count_both old.clips new.clips ≡ old.clips + new.clips = omega (arith, o.clips, n.clips) in
+          ap of_counts counted ∙ λ i. record { commands = c i; glyphs = g i; clips = p i }
+
+      both_judged : t ≡ items_fit (lent y.boxes y.below y.items y.item_boxes glyphs 0 0 0) items
+      both_judged = judges ∙ ap (items_fit (lent y.boxes y.below y.items y.item_boxes glyphs 0 0 0)) same_counts
+
       pub next_over : t ≡ false → (w h b R G W : ℕ) → refused NoRoom 0 ≡ answer_of (lent_for z glyphs R G W) (on_both w h b s (both_of s))
-      next_over e w h b R G W = rw (sym (sym q ∙ a)) (no_items (lent_for z glyphs R G W) _ _ (sym (items_same z y glyphs R G W _ l) ∙ sym f ∙ e))
+      next_over e w h b R G W = rw (sym (sym q ∙ a)) (no_items (lent_for z glyphs R G W) _ _ (sym (items_same z y glyphs R G W _ l) ∙ sym both_judged ∙ e))
 
       module _ (e : t ≡ true) where
         both_fit : Room (old.clips + new.clips) (old.commands + new.commands) y
-        both_fit = items_room y glyphs _ (sym f ∙ e)
+        both_fit = items_room y glyphs _ (sym both_judged ∙ e)
 
         two : Two s old new y
         two = subst (RecordsBoth s y) q k both_fit
@@ -94,7 +106,7 @@ module _ (s : List ℕ) (z y : Space) (glyphs : List ℕ) (r : Result Strips Ref
               rects = diff_dirty (commands_of s 12) (commands_of s old.at);
               commands = commands_of s old.at;
               is_draft = rw (sym (sym q ∙ a)) refl;
-              fit = sym (items_same z y glyphs 0 0 0 _ l) ∙ sym f ∙ e;
+              fit = sym (items_same z y glyphs 0 0 0 _ l) ∙ sym both_judged ∙ e;
               listed = subst (λ (d : List Rect). Listed before d rs n) (λ i. diff_dirty (o i) (u i)) x;
               boxes = stored_boxes s y.boxes y.below y.items y.item_boxes old.commands new.commands two.held.stored (commands_of s old.at) u;
               count = sym (list_length s y.boxes y.below y.items new.commands old.commands) ∙ ap length u;
@@ -108,13 +120,16 @@ module _ (s : List ℕ) (w h b : ℕ) (z y : Space) (glyphs : List ℕ) (r : Res
   pub first_refused : (why : Refusal) → r ≡ Err why → (R G W : ℕ) → Err why ≡ answer_of (lent_for z glyphs R G W) (on_first w h b s (first_of s))
   first_refused why q R G W = rw (sym (sym q ∙ a)) refl
 
-  module _ (new : Cursor) (q : r ≡ Ok new) (t : Bool) (f : t ≡ items_fit (lent y.boxes y.below y.items y.item_boxes glyphs 0 0 0) (record { commands = new.commands; glyphs = new.glyphs; clips = new.clips })) where
+  module _ (new : Cursor) (q : r ≡ Ok new) (counts : Counts) (counted : counts ≡ items_of new) (t : Bool) (judges : t ≡ items_fit (lent y.boxes y.below y.items y.item_boxes glyphs 0 0 0) (of_counts counts)) where
+    judged_one : t ≡ items_fit (lent y.boxes y.below y.items y.item_boxes glyphs 0 0 0) (of_counts (items_of new))
+    judged_one = judges ∙ ap (λ (x : Counts). items_fit (lent y.boxes y.below y.items y.item_boxes glyphs 0 0 0) (of_counts x)) counted
+
     pub first_over : t ≡ false → (R G W : ℕ) → refused NoRoom 0 ≡ answer_of (lent_for z glyphs R G W) (on_first w h b s (first_of s))
-    first_over e R G W = rw (sym (sym q ∙ a)) (no_items (lent_for z glyphs R G W) _ _ (sym (items_same z y glyphs R G W _ l) ∙ sym f ∙ e))
+    first_over e R G W = rw (sym (sym q ∙ a)) (no_items (lent_for z glyphs R G W) _ _ (sym (items_same z y glyphs R G W _ l) ∙ sym judged_one ∙ e))
 
     module _ (e : t ≡ true) where
       one_fits : Room new.clips new.commands y
-      one_fits = items_room y glyphs _ (sym f ∙ e)
+      one_fits = items_room y glyphs _ (sym judged_one ∙ e)
 
       one : Holds new.clips new.commands s y × (commands_in s y.boxes y.below y.items 0 new.commands ≡ commands_of s 12)
       one = subst (RecordsFirst s y) q k one_fits
@@ -129,7 +144,7 @@ module _ (s : List ℕ) (w h b : ℕ) (z y : Space) (glyphs : List ℕ) (r : Res
         rects = screen_rect w h ∷ [];
         commands = commands_of s 12;
         is_draft = rw (sym (sym q ∙ a)) refl;
-        fit = sym (items_same z y glyphs 0 0 0 _ l) ∙ sym f ∙ e;
+        fit = sym (items_same z y glyphs 0 0 0 _ l) ∙ sym judged_one ∙ e;
         listed = subst (λ (d : Rect). Listed before (d ∷ []) rs n) is (listed 1 before _ rs n x);
         boxes = stored_boxes s y.boxes y.below y.items y.item_boxes 0 new.commands stored (commands_of s 12) one.1;
         count = sym (list_length s y.boxes y.below y.items new.commands 0) ∙ ap length one.1;

@@ -9,13 +9,16 @@ ghost use Rattle.plans.specs.Drafts.{screen_rect, on_first, on_both};
 ghost use Rattle.plans.specs.Answers.{items_fit, answer_of};
 ghost use Rattle.frame_drafts.specs.Scratch.{lent, on_strips, outcome, Roomy, StandsFor};
 ghost use Rattle.frame_drafts.specs.Listing.{Lists};
+ghost use Rattle.frame_drafts.specs.Counts.{items_of, items_of_both};
 
+use frame::Strips;
 use geometry::Rect;
 use plans::{Plan, Room};
 use rect_list::RectList;
 use refusals::{Fault, Refusal};
 use runtime::ListSpace;
 use screen::Screen;
+use strip::Cursor;
 
 // Which frame a call plans: a first one, or one after another.
 #[derive(Clone, Copy, Debug, PartialEq, Eq)]
@@ -32,6 +35,33 @@ pub struct Items {
     pub clips: u64,
 }
 
+// What a strip has, by where its reading ended.
+impl From<Cursor> for Items {
+    ghost from_gives = { λ end items. items ≡ items_of end };
+
+    fn from(end: Cursor) -> Items {
+        Items {
+            commands: end.commands,
+            glyphs: end.glyphs,
+            clips: end.clips,
+        }
+    }
+}
+
+// What two strips have together. A strip that was read has at most 4,096 commands, 4,096 clips and 16,384 glyphs, so that no sum saturates.
+impl From<Strips> for Items {
+    ghost from_gives = { λ strips items. items ≡ items_of_both strips };
+
+    fn from(strips: Strips) -> Items {
+        let Strips { old, new } = strips;
+        Items {
+            commands: old.commands.saturating_add(new.commands),
+            glyphs: old.glyphs.saturating_add(new.glyphs),
+            clips: old.clips.saturating_add(new.clips),
+        }
+    }
+}
+
 // What a draft is made of: the new strip's commands, from place `first` on, and the first n rectangles of scratch, of which there may be
 // more than it holds.
 #[derive(Clone, Copy, Debug, PartialEq, Eq)]
@@ -41,7 +71,7 @@ struct Changed {
     n: usize,
 }
 
-// Whether scratch holds so many items.
+// Whether scratch holds so many items. Its slices stay slices, as C lends them.
 #[tactic(auto, unfolding(plans::specs::Answers::items_fit))]
 fn items_fit(
     count: Items,
@@ -84,11 +114,7 @@ fn list_first(
     ensures { Lists screen.width screen.height screen.band_height (on_first screen.width screen.height screen.band_height s.now (first_of s.now)) (space boxes.old below.old items.old item_boxes.old) glyph_items.now rects.old rects.new items.new item_boxes.new result }
 {
     let new = recording::record_first(s, boxes, below, items, item_boxes)?;
-    let count = Items {
-        commands: new.commands,
-        glyphs: new.glyphs,
-        clips: new.clips,
-    };
+    let count = Items::from(new);
     if !items_fit(count, boxes, below, items, item_boxes, glyph_items) {
         return Err(Fault::NoRoom.at(0));
     }
@@ -114,18 +140,12 @@ fn list_next(
     ensures { (w h b : ℕ) → Lists w h b (on_both w h b s.now (both_of s.now)) (space boxes.old below.old items.old item_boxes.old) glyph_items.now rects.old rects.new items.new item_boxes.new result }
 {
     let both = recording::record_both(s, boxes, below, items, item_boxes)?;
-    let old = both.old;
-    let new = both.new;
-    let count = Items {
-        commands: old.commands + new.commands,
-        glyphs: old.glyphs + new.glyphs,
-        clips: old.clips + new.clips,
-    };
+    let count = Items::from(both);
     if !items_fit(count, boxes, below, items, item_boxes, glyph_items) {
         return Err(Fault::NoRoom.at(0));
     }
-    let first = old.commands as usize;
-    let commands = new.commands as usize;
+    let first = both.old.commands as usize;
+    let commands = both.new.commands as usize;
     let lists = ListSpace {
         bytes: s,
         boxes,

@@ -8,7 +8,6 @@ ghost use Rattle.candidates.specs.Table.{find};
 ghost use Rattle.full_form.specs.Texts.{refused_line, row_line};
 
 use entry_calls::{Entry, Space};
-use frame::Strips;
 use frame_drafts::Items;
 use plans::Plan;
 use printing::{Numbers, Totals};
@@ -17,7 +16,6 @@ use runtime::FrameWork;
 use screen::Screen;
 use std::io::Write;
 use std::{fmt, io};
-use strip::Cursor;
 
 // The bits of an edge, a zero without its sign: only that sign is open.
 #[derive(Clone, Copy, Debug, PartialEq)]
@@ -36,21 +34,9 @@ impl fmt::Display for Edge {
 
 // What the strips of a call have; nothing where the input is refused.
 fn items_of(entry: Entry, input: &[u8]) -> Option<Items> {
-    let items = |end: Cursor| Items {
-        commands: end.commands,
-        glyphs: end.glyphs,
-        clips: end.clips,
-    };
     match entry {
-        Entry::First => frame::first_frame(input).ok().map(items),
-        Entry::Next => {
-            let Strips { old, new } = frame::both_strips(input).ok()?;
-            Some(Items {
-                commands: old.commands.wrapping_add(new.commands),
-                glyphs: old.glyphs.wrapping_add(new.glyphs),
-                clips: old.clips.wrapping_add(new.clips),
-            })
-        }
+        Entry::First => frame::first_frame(input).ok().map(Items::from),
+        Entry::Next => frame::both_strips(input).ok().map(Items::from),
     }
 }
 
@@ -103,15 +89,15 @@ fn write_plan(
     let Plan { rects, words, work } = plan;
     let FrameWork {
         commands_emitted,
-        pixels_transferred: pixels,
         regions_transferred: regions,
+        ..
     } = work;
     writeln!(
         out,
         "accepted\ncommands {commands_emitted}\nrectangles {rects}"
     )?;
     write_rects(out, front(&space.rects, rects.saturating_mul(4)))?;
-    writeln!(out, "{}", Totals { regions, pixels })?;
+    writeln!(out, "{}", Totals(work))?;
     write_regions(
         out,
         front(&space.regions, (regions as usize).saturating_mul(4)),

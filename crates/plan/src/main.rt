@@ -31,22 +31,21 @@ const LENT: Limits = Limits {
 fn write_plan(
     out: &mut impl Write,
     input: &[u8],
-    rects: usize,
+    plan: Plan,
     regions: &[u32],
     words: &[u32],
-    pixels: u64,
 ) -> io::Result<()> {
     let Ok(screen) = frame::read_header(input) else {
         return Ok(());
     };
+    let Plan { rects, work, .. } = plan;
     writeln!(out, "dirty {rects}")?;
     let (regions, _) = regions.as_chunks::<4>();
     for [x, y, wide, high] in regions {
         let row = candidates::candidates(screen, *y, words);
         writeln!(out, "region {x} {y} {wide} {high} draw{}", Numbers(row))?;
     }
-    let regions = regions.len() as u64;
-    writeln!(out, "{}", Totals { regions, pixels })
+    writeln!(out, "{}", Totals(work))
 }
 
 // The part of the output that a plan counts.
@@ -54,16 +53,9 @@ fn write_planned(out: &mut impl Write, input: &[u8], plan: Plan, space: &Space) 
     requires regions { 4 * plan.work.regions_transferred ≤ vec_len space.now.regions }
     requires words { plan.words ≤ vec_len space.now.words }
 {
-    let Plan { rects, words, work } = plan;
-    let regions = &space.regions[..4 * work.regions_transferred as usize];
-    write_plan(
-        out,
-        input,
-        rects,
-        regions,
-        &space.words[..words],
-        work.pixels_transferred,
-    )
+    let regions = &space.regions[..4 * plan.work.regions_transferred as usize];
+    let words = &space.words[..plan.words];
+    write_plan(out, input, plan, regions, words)
 }
 
 fn answer(out: &mut impl Write, space: &mut Space, input: &[u8]) -> io::Result<()> {

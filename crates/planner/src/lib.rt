@@ -1,5 +1,5 @@
 // The planner: a plan of the first frame, or of what changed since the last one. Everything is worked out in scratch, published only
-// where the whole plan fits, and the scratch is cleared.
+// where the whole plan fits, and the scratch is cleared. What is lent stays slices throughout, for the reason that stands at `plan`.
 #![tactic(auto)]
 
 ghost use Rattle.std.specs.Prelude.{◌≡◌, ◌++◌, ◌/◌, min, length, take, drop};

@@ -1,6 +1,7 @@
 // What the programs' lines are made of. A line is written by `writeln!`, and these stand in it.
 #![tactic(auto)]
 
+use runtime::FrameWork;
 use std::fmt;
 
 // Each number after a blank.
@@ -23,19 +24,17 @@ impl fmt::Display for Numbers<'_> {
 
 // A plan's totals.
 #[derive(Clone, Copy, Debug, PartialEq, Eq)]
-pub struct Totals {
-    pub regions: u64,
-    pub pixels: u64,
-}
+pub struct Totals(pub FrameWork);
 
 impl fmt::Display for Totals {
     ghost use Rattle.std.specs.Prelude.{Some};
     ghost use Rattle.printing.specs.Lines.{totals};
 
-    ghost output = { λ t. Some (totals t.regions t.pixels) };
+    ghost output = { λ t. Some (totals t.0.regions_transferred t.0.pixels_transferred) };
 
     fn fmt<W: fmt::Write>(&self, f: &mut fmt::Formatter<W>) -> fmt::Result {
-        let (regions, pixels) = (self.regions, self.pixels);
+        let work = self.0;
+        let (regions, pixels) = (work.regions_transferred, work.pixels_transferred);
         write!(f, "regions {regions} pixels {pixels}")
     }
 }

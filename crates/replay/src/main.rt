@@ -5,7 +5,6 @@
 
 use entry_calls::{Entry, Limits, Space};
 use little_endian::u32_at;
-use screen::Screen;
 use std::alloc::Global;
 use std::io;
 use std::io::{BufWriter, Read, Write};
@@ -92,7 +91,7 @@ fn answer_frame(out: &mut impl Write, alloc: Global, entry: Entry, call: &[u8]) 
     full_form::write_answer(out, entry, input, plan, &space)
 }
 
-// Header, y and words.
+// Header, y and words. The header may have any sizes: those that do not fit are refused where the row is looked up.
 fn answer_candidates(out: &mut impl Write, alloc: Global, call: &[u8]) -> io::Result<()> {
     let Some((numbers, words)) = call.split_at_checked(16) else {
         return writeln!(out, "header or y is cut off");
@@ -102,11 +101,7 @@ fn answer_candidates(out: &mut impl Write, alloc: Global, call: &[u8]) -> io::Re
         .take(MOST.index_words as usize)
         .map(|word| u32_at(word, 0))
         .collect::<Vec<u32>>(alloc)?;
-    let screen = Screen {
-        width: u32_at(numbers, 0),
-        height: u32_at(numbers, 4),
-        band_height: u32_at(numbers, 8),
-    };
+    let screen = frame::sizes_at(numbers);
     full_form::write_candidates(out, screen, u32_at(numbers, 12), &words)
 }
 

@@ -1,4 +1,5 @@
-// Band rows: the exact row of a height. Every function has an answer for every f64 and every size.
+// Band rows: the exact row of a height. Every function has an answer for every f64 and every size. A band's height and the number of rows
+// stay two numbers, here and in `band_index`: the second is worked out once for all boxes, and from a `Screen` each call would divide again.
 #![tactic(auto)]
 
 ghost use Rattle.std.specs.Prelude.{◌≡◌};
