@@ -40,10 +40,8 @@ impl<'a> RectList<'a> {
         requires { self.old.count + 4 < 2 ^ 63 }
         ensures { AddedTo 4 self.old (list_of parts) self.new }
     {
-        for part in parts {
-            if let Some(rect) = part {
-                self.push(rect);
-            }
+        for rect in parts.into_iter().flatten() {
+            self.push(rect);
         }
     }
 }

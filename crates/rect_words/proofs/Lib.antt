@@ -1,2 +1,3 @@
 -- Laws of the definitions in specs/, for the crates above.
+pub mod Chunks
 pub mod Stores

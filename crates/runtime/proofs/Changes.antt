@@ -44,19 +44,13 @@ unfolding boxes_in
 boxes_end ibs p zero h = refl
 boxes_end ibs p (suc i) h = absurd (omega arith)
 
-pub boxes_next : (ibs : List Float) (p i : ℕ) (b : Rect) → 0 < i → b ≡ box_at ibs p → boxes_in ibs p i ≡ (b ∷ []) ++ boxes_in ibs (p + 1) (i - 1)
+-- one more, at their end
+pub boxes_more : (ibs : List Float) (p i q : ℕ) (b : Rect) → q ≡ p + i → b ≡ box_at ibs q → boxes_in ibs p (i + 1) ≡ boxes_in ibs p i ++ (b ∷ [])
 unfolding boxes_in
-boxes_next ibs p zero b h e = absurd (omega arith)
-boxes_next ibs p (suc i) b h e =
-    let u : suc i - 1 ≡ i = omega arith in
-    let v : p + 1 ≡ suc p = omega arith in
-    rw (u, v, e)
-
--- the same, up to a place
-pub boxes_to : (ibs : List Float) (end p : ℕ) (b : Rect) → p < end → b ≡ box_at ibs p → boxes_in ibs p (end - p) ≡ (b ∷ []) ++ boxes_in ibs (p + 1) (end - (p + 1))
-boxes_to ibs end p b h e =
-    let f : end - p - 1 ≡ end - (p + 1) = omega arith in
-    boxes_next ibs p (end - p) b (omega arith) e ∙ ap (λ k. (b ∷ []) ++ boxes_in ibs (p + 1) k) f
+boxes_more ibs p zero q b h e = let v : q ≡ p = omega arith in ap (λ z. z ∷ []) (sym (e ∙ ap (box_at ibs) v))
+boxes_more ibs p (suc i) q b h e =
+    let v : suc i + 1 ≡ suc (i + 1) = omega arith in
+    ap (boxes_in ibs p) v ∙ ap (λ l. box_at ibs p ∷ l) (boxes_more ibs (suc p) i q b (omega arith) e)
 
 -- ---- lists
 module _ (s : List ℕ) (bs : List Float) (ns is : List ℕ) where

@@ -277,8 +277,9 @@ impl ListSpace<'_> {
         requires { (4 * (first + count) ≤ length self.item_boxes.now) × (rects.old.count + count < 2 ^ 63) }
         ensures { AddedTo count rects.old (boxes_in self.entry.item_boxes.now first count) rects.new }
     {
-        for i in first..first + count {
-            rects.push(self.box_at(i));
+        let boxes = &self.item_boxes[4 * first..4 * (first + count)];
+        for edges in boxes.as_chunks::<4>().0 {
+            rects.push(Rect::from(*edges));
         }
     }
 

@@ -1,8 +1,7 @@
-use Rattle.std.specs.Prelude.{take}
-use Rattle.differences.specs.Differences.{list_of}
+use Rattle.std.proofs.Common.{length}
 use Rattle.rect_list.specs.Rects.{AddedTo}
 use Rattle.rect_list.proofs.RectList.extend_parts.Given as goal
 
--- the parts so far are appended
-abbrev pub invariant-loop-part : goal.invariant-loop-part
-invariant-loop-part l = AddedTo l.part-index l.initial.self (list_of (take l.part-index l.part-items)) l.self
+-- the boxes so far are appended
+abbrev pub invariant-loop-rect : goal.invariant-loop-rect
+invariant-loop-rect l = AddedTo (length l.yielded) l.initial.self l.yielded l.self

@@ -1,11 +1,25 @@
--- `ListSpace::append_bounds` meets its contract: what is left, appended to what is there, is the whole. Assumes nothing.
+-- `ListSpace::append_bounds` meets its contract: the boxes, one after the other. Assumes nothing.
 use native.Mathlib.Omega.{arith}
-use Rattle.rect_list.proofs.Turns.{to_add, to_end}
-use Rattle.runtime.proofs.Changes.{boxes_end, boxes_to}
+use mathlib.Core.Path.{◌≡◌, refl, sym, ap, subst, ◌∙◌}
+use mathlib.Core.List.{[]}
+use Prim.Native.Nat.{◌+◌, ◌-◌, ◌*◌, ◌<◌}
+use Rattle.rect_words.proofs.Chunks.{chunk_in}
+use Rattle.rect_list.proofs.Turns.{to_none, to_both, to_as}
+use Rattle.runtime.specs.Placed.{boxes_in}
+use Rattle.runtime.proofs.Changes.{boxes_end, boxes_more}
 use Rattle.runtime.proofs.ListSpace.append_bounds.Goals as goal
 
-pub loop-i-preserved : goal.loop-i-preserved
-loop-i-preserved c = (omega (arith, c.push.ensures.added.most, c.loop-i.invariant.0, c.loop-i-test.true), to_add c.loop-i.invariant.1 (boxes_to _ _ _ _ c.loop-i-test.true c.box_at.ensures) c.push.ensures)
+pub loop-edges-init : goal.loop-edges-init
+loop-edges-init c = to_as {k = 0} (sym (boxes_end _ _ _ (omega arith))) (omega arith) to_none
+
+pub loop-edges-preserved : goal.loop-edges-preserved
+loop-edges-preserved c =
+    let at = c.loop-edges.edges-index in
+    let first = c.args.first in
+    let box = c.from.ensures ∙ chunk_in (4 * first) (4 * (first + c.args.count) - 4 * first) at (4 * (first + at)) c.args.self.item_boxes.now [] c.as_chunks.ensures.front (subst (λ n. at < n) c.as_chunks.ensures.front_len c.loop-edges-test.true) (omega arith) in
+    to_as (sym (boxes_more _ _ _ _ _ refl box)) (omega arith) (to_both c.loop-edges.invariant c.push.ensures)
 
 pub returns : goal.returns
-returns c = to_end c.loop-i.invariant.1 (boxes_end _ _ _ (omega (arith, c.loop-i-test.false))) (omega (arith, c.loop-i.invariant.0))
+returns c =
+    let all : c.loop-edges.edges-index ≡ c.args.count = omega (arith, c.loop-edges.auto, c.loop-edges-test.false, c.as_chunks.ensures.front_len) in
+    to_as (ap (boxes_in _ _) all) (omega arith) c.loop-edges.invariant
