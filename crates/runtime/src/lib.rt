@@ -88,8 +88,8 @@ fn apart(s: &[u8], at: usize, other: usize) -> bool
 fn same_run(s: &[u8], at: usize, other: usize) -> bool
     ensures { result ≡ true → SameRun s.now at other }
 {
-    command_bounds::kind_at(s, at) == Some(Kind::Run)
-        && command_bounds::kind_at(s, other) == Some(Kind::Run)
+    command_bounds::stands(s, at, Kind::Run)
+        && command_bounds::stands(s, other, Kind::Run)
         && little_endian::same_bytes(s, at, other, RUN_LENGTH)
 }
 

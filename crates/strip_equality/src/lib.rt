@@ -90,7 +90,7 @@ pub fn same_drawing_at(s: &[u8], p: usize, q: usize) -> bool
     let Some(kind) = command_bounds::kind_at(s, p) else {
         return same_decoded(s, p, q);
     };
-    if command_bounds::kind_at(s, q) != Some(kind) {
+    if !command_bounds::stands(s, q, kind) {
         return same_decoded(s, p, q);
     }
     match kind {

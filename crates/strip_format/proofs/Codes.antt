@@ -1,13 +1,12 @@
 -- A kind and its byte tell one another. Assumes nothing.
 use mathlib.Core.Path.{◌≡◌, refl, sym, ap, subst, ◌∙◌}
-use mathlib.Core.Bool.{Bool, true, false, not, false≢true}
+use mathlib.Core.Bool.{true}
 use Prim.Native.Nat.{ℕ, ◌<◌, ◌≤◌}
 use native.Mathlib.Omega.{arith}
 use lib.Dec.{eqb}
 use borrow.Author.Tests.{eqb-true, eqb-false, ne_eqb}
 use Rattle.std.specs.Prelude.{Option, Some, None, Result, Ok, Err}
 use Rattle.std.specs.Result.{result_ok, result_eq}
-use Rattle.std.specs.Option.{option_eq}
 use Rattle.lists.proofs.Picks.{pick_cases}
 use Rattle.strip_format.specs.declared.Kind.{Kind}
 use Rattle.strip_format.specs.contracts.KindPartialEq.TheImpl as kinds
@@ -161,22 +160,6 @@ kind_told Scene Stroke = refl
 kind_told Scene Run = refl
 kind_told Scene Glyph = refl
 kind_told Scene Scene = refl
-
-pub kind_same : (k l : Kind) → kinds.ghosts.eq k l ≡ true → k ≡ l
-kind_same k l e = code_one k l (eqb-true (code k) (code l) (sym (kind_told k l) ∙ e))
-
-pub kinds_same : (o p : Option Kind) → option_eq kinds.ghosts.eq o p ≡ true → o ≡ p
-kinds_same None None e = refl
-kinds_same None (Some l) e = absurd (false≢true e)
-kinds_same (Some k) None e = absurd (false≢true e)
-kinds_same (Some k) (Some l) e = ap Some (kind_same k l e)
-
-pub kinds_alike : (o p : Option Kind) {r : Bool} → r ≡ not (option_eq kinds.ghosts.eq o p) → r ≡ false → o ≡ p
-kinds_alike o p e f = kinds_same o p (not_false (option_eq kinds.ghosts.eq o p) (sym e ∙ f))
-  where
-    not_false : (b : Bool) → not b ≡ false → b ≡ true
-    not_false true h = refl
-    not_false false h = absurd (false≢true (sym h))
 
 -- whether a byte is read as a kind
 pub kind_read : (b : ℕ) (r : Result Kind ℕ) (k : Kind) → Decodes b r → result_eq kinds.ghosts.eq eqb r (Ok k) ≡ eqb b (code k)

@@ -2,22 +2,21 @@
 use mathlib.Core.Path.{sym, ◌∙◌}
 use mathlib.Core.Bool.{false≢true}
 use native.Mathlib.Omega.{arith}
-use Rattle.strip_format.proofs.Codes.{kinds_same}
 use Rattle.command_bounds.proofs.Standing.{is_run}
 use Rattle.runtime.proofs.InPlace.{run_twice}
 use Rattle.runtime.proofs.same_run.Goals as goal
-use Rattle.runtime.proofs.same_run.Goals.{then-eq, else-eq}
+use Rattle.runtime.proofs.same_run.Goals.{then-stands, else-stands}
 
 pub same_bytes-requires : goal.same_bytes-requires
 same_bytes-requires c =
-    elim c.if-eq.branch [
-      | then-eq w ↦ (omega (arith, (is_run _ _ (sym c.kind_at.ensures ∙ kinds_same _ _ (sym c.eq.ensures ∙ w.if-eq.true))).1), omega (arith, (is_run _ _ (sym w.kind_at-then-eq.ensures ∙ kinds_same _ _ (sym w.eq-then-eq.ensures ∙ sym w.value-is ∙ c.if-eq-2.true))).1))
-      | else-eq w ↦ absurd (false≢true (sym w.if-eq.false ∙ sym w.value-is ∙ c.if-eq-2.true))
+    elim c.if-stands.branch [
+      | then-stands w ↦ (omega (arith, (is_run _ _ (c.stands.ensures.whole w.if-stands.true)).1), omega (arith, (is_run _ _ (w.stands-then-stands.ensures.whole (sym w.value-is ∙ c.if-stands-2.true))).1))
+      | else-stands w ↦ absurd (false≢true (sym w.if-stands.false ∙ sym w.value-is ∙ c.if-stands-2.true))
     ]
 
-pub returns-then-eq-2 : goal.returns-then-eq-2
-returns-then-eq-2 c =
-    λ e. elim c.if-eq.branch [
-      | then-eq w ↦ run_twice _ _ _ (sym c.kind_at.ensures ∙ kinds_same _ _ (sym c.eq.ensures ∙ w.if-eq.true)) (sym w.kind_at-then-eq.ensures ∙ kinds_same _ _ (sym w.eq-then-eq.ensures ∙ sym w.value-is ∙ c.if-eq-2.true)) (c.same_bytes.ensures e)
-      | else-eq w ↦ absurd (false≢true (sym w.if-eq.false ∙ sym w.value-is ∙ c.if-eq-2.true))
+pub returns-then-stands-2 : goal.returns-then-stands-2
+returns-then-stands-2 c =
+    λ e. elim c.if-stands.branch [
+      | then-stands w ↦ run_twice _ _ _ (c.stands.ensures.whole w.if-stands.true) (w.stands-then-stands.ensures.whole (sym w.value-is ∙ c.if-stands-2.true)) (c.same_bytes.ensures e)
+      | else-stands w ↦ absurd (false≢true (sym w.if-stands.false ∙ sym w.value-is ∙ c.if-stands-2.true))
     ]
