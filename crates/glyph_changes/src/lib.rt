@@ -44,7 +44,7 @@ fn equal_at(s: &[u8], p: usize, q: usize) -> bool
         || (glyph_eq(s, p, q) && rect_inside(s, p + 13).same_edges(rect_inside(s, q + 13)))
 }
 
-// Whether two runs have equal glyphs, with equal boxes, and as many.
+// Whether two runs have equal glyphs, with equal boxes, and as many. By number, since both runs' glyphs stand in one strip, at offsets.
 pub fn equal_glyphs(s: &[u8], old: Run, new: Run) -> bool
     requires { Inside s.now old.glyphs old.count × Inside s.now new.glyphs new.count }
     ensures { result ≡ equal_glyphs (glyphs_of s.now old) (glyphs_of s.now new) }
@@ -77,7 +77,7 @@ fn window_at(s: &[u8], boxes: &[f64], run: Run, at: usize) -> Rect
     display_list::window_glyph_bounds(boxes, number, transform, bounds)
 }
 
-// Appends the boxes of a run's glyphs from the one of a number on.
+// Appends the boxes of a run's glyphs from the one of a number on. By number, which gives the offset in the strip of each.
 fn append_glyph_bounds(s: &[u8], boxes: &[f64], run: Run, first: usize, rects: &mut RectList)
     requires { (8 * run.clip ≤ length boxes.now) × Inside s.now run.glyphs run.count × (first ≤ run.count) × (rects.old.count + (run.count - first) < 2 ^ 63) }
     ensures { AddedTo (run.count - first) rects.old (boxes_by (windowed boxes.now run) (glyphs_from s.now (run.glyphs + 45 * first) (run.count - first))) rects.new }
@@ -111,7 +111,7 @@ fn append_changed(
 }
 
 // Appends the boxes of what changed from a run to another: at each common place whose glyphs are painted
-// differently the union of both boxes, and then the boxes of the glyphs that only one of them has.
+// differently the union of both boxes, and then the boxes of the glyphs that only one of them has. By number, which gives both offsets.
 pub fn changed_glyph_bounds(s: &[u8], boxes: &[f64], old: Run, new: Run, rects: &mut RectList)
     requires { (8 * old.clip ≤ length boxes.now) × (8 * new.clip ≤ length boxes.now) × Inside s.now old.glyphs old.count × Inside s.now new.glyphs new.count × (rects.old.count + most_boxes < 2 ^ 63) }
     ensures { AddedTo most_boxes rects.old (changed_by (windowed boxes.now old) (windowed boxes.now new) (glyphs_of s.now old) (glyphs_of s.now new)) rects.new }

@@ -271,10 +271,6 @@ module _ (s : List ℕ) (at c m : ℕ) (z : Space) (st : Cursor) (d : ListState)
     lengths : SameLengths z w
     holds : Holds c m s z → Room e.clips e.commands z → Listed s m z w e (noted s g.listing x)
 
-  -- counts that no strip passes
-  pub low : c ≤ 4096 → m ≤ 4096 → (d.clips ≤ 8192) × (d.depth ≤ 32) × (d.commands ≤ 8192)
-  low a b = (omega (arith, g.clips_are, g.within.clips), omega (arith, g.depth_is, g.within.depth), by_le st.due 0 (λ u. omega (arith, g.commands_are, g.within.commands, g.tally.resting (omega arith))) (λ u. omega (arith, g.commands_are, g.within.commands, g.tally.running u)))
-
   -- closer to the end, and on the way still
   abbrev pub Nearer : Cursor → ListState → Space → Type 0
   Nearer t e w = (length s - t.at < length s - st.at) × Going s at c m z t e w

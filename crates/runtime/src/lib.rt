@@ -305,6 +305,7 @@ impl ListSpace<'_> {
     // first `old` commands of the space, the new one the `new` commands behind them. Where `rects` is too short the number is
     // still right.
     // It takes words and makes the list itself: a `RectList` lent to it would have to hold no box, which asks more of a caller.
+    // By number, since each step compares two places of one list.
     pub fn diff_dirty(self, old: usize, new: usize, rects: &mut [f64]) -> usize
         requires { Stored (old + new) self.bytes.now self.boxes.now self.below.now self.items.now self.item_boxes.now × (old ≤ 4096) × (new ≤ 4096) }
         ensures { Listed rects.old (diff_dirty (commands_in self.entry.bytes.now self.entry.boxes.now self.entry.below.now self.entry.items.now 0 old) (commands_in self.entry.bytes.now self.entry.boxes.now self.entry.below.now self.entry.items.now old new)) rects.new result }

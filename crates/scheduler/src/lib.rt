@@ -54,7 +54,7 @@ fn put_band(work: &[u64], out: &mut [u32]) -> u64
 }
 
 // The regions of a screen for boxes of four edges each, as words at the front of out: x, y, width and height of each. None where
-// out has no room for all of them: what it holds is then left open.
+// out has no room for all of them: what it holds is then left open. The bands go by number, which gives the row that each begins at.
 pub fn schedule(rects: &[f64], screen: Screen, work: &mut [u64], out: &mut [u32]) -> Option<Totals>
     requires sizes { Schedule.Sizes screen.width screen.height screen.band_height }
     requires n_in_bounds { length rects.now / 4 ≤ length work.old }

@@ -26,6 +26,7 @@ fn same_f64(s: &[u8], p: usize, q: usize) -> bool
 }
 
 // Whether the N f64 at two offsets are equal: a box's four, an affine's six. Most have the same bytes, and then none is looked at by itself.
+// By number, since both stand in one strip, at offsets.
 fn same_floats<const N: usize>(s: &[u8], p: usize, q: usize) -> bool
     requires { (p + 8 * N ≤ length s.now) × (q + 8 * N ≤ length s.now) }
     ensures { result ≡ same_floats s.now p q N }
