@@ -5,15 +5,16 @@ use mathlib.Core.Logic.{◌⊎◌, inl, inr}
 use mathlib.Core.List.{List}
 use Prim.Native.Nat.{ℕ, ◌+◌, ◌-◌, ◌≤◌, ◌<◌}
 use native.Mathlib.Omega.{arith}
-use lib.Dec.{leb, eqb}
+use lib.Dec.{leb, ltb, eqb}
 use lib.ListN.{length, get_or}
-use borrow.Author.Tests.{leb-true, leb-false, le-leb, lt-leb, eqb-false}
+use borrow.Author.Tests.{leb-true, leb-false, le-leb, lt-leb, lt-ltb, ltb-true, eqb-false}
 use Rattle.std.specs.Prelude.{Option, Some, None}
 use Rattle.std.specs.Bool.{then_some}
 use Rattle.lists.specs.Pick.{pick}
 use Rattle.lists.proofs.Picks.{pick_true, pick_false, pick_same, pick_cases}
 use Rattle.strip_format.specs.Format.{length_of, fill_at, stroke_path_at, run_at, scene_at, blank, command_at}
-use Rattle.strip_format.proofs.Lengths.{length_pos, length_fill, length_stroke, length_run, length_scene}
+use Rattle.little_endian.proofs.Past.{byte_past}
+use Rattle.strip_format.proofs.Lengths.{length_pos, length_unknown, length_fill, length_stroke, length_run, length_scene}
 use Rattle.strip_format.proofs.Commands.{command_fill, command_stroke, command_run, command_scene, command_short, command_other}
 use Rattle.strip_format.specs.declared.Kind.{Kind}
 use Rattle.strip_format.specs.declared.Kind.TheVariants.{Fill, Stroke, Run, Scene}
@@ -93,6 +94,33 @@ module _ (s : List ℕ) (at : ℕ) where
   kind_byte k q =
       let w = stands k q in
       pick_true (leb (at + length_of (get_or s at 0)) (length s)) (get_or s at 0) 0 (le-leb _ _ (subst (λ n. at + length_of n ≤ length s) (sym w.0) w.1)) ∙ w.0
+
+  -- so the kind tells the byte that stands whole, else 0, but for bytes above 7, which no command has
+  abbrev pub kind_number : Option Kind → ℕ → ℕ
+  kind_number (Some k) b = code k
+  kind_number None b = pick (ltb 7 b) b 0
+
+  pub kind_numbered : pick (leb (at + length_of (get_or s at 0)) (length s)) (get_or s at 0) 0 ≡ kind_number (kind_at s at) (get_or s at 0)
+  kind_numbered = by (kind_at s at) refl
+    where
+      by : (o : Option Kind) → kind_at s at ≡ o → pick (leb (at + length_of (get_or s at 0)) (length s)) (get_or s at 0) 0 ≡ kind_number o (get_or s at 0)
+      by (Some k) q = kind_byte k q
+      by None q = whole (leb (at + length_of (get_or s at 0)) (length s)) refl
+        where
+          known : leb (at + length_of (get_or s at 0)) (length s) ≡ true → (length s < at + length_of (get_or s at 0)) ⊎ (7 < get_or s at 0) → 7 < get_or s at 0
+          known e (inl h) = absurd (omega (arith, h, leb-true _ _ e))
+          known e (inr h) = h
+
+          cut : leb (at + length_of (get_or s at 0)) (length s) ≡ false → 7 < get_or s at 0 → ⊥
+          cut e h = omega (arith, h, byte_past s at (omega (arith, leb-false _ _ e, length_unknown (get_or s at 0) h)))
+
+          none : leb (at + length_of (get_or s at 0)) (length s) ≡ false → (t : Bool) → ltb 7 (get_or s at 0) ≡ t → 0 ≡ pick (ltb 7 (get_or s at 0)) (get_or s at 0) 0
+          none e true f = absurd (cut e (ltb-true _ _ f))
+          none e false f = sym (pick_false (ltb 7 (get_or s at 0)) (get_or s at 0) 0 f)
+
+          whole : (t : Bool) → leb (at + length_of (get_or s at 0)) (length s) ≡ t → pick (leb (at + length_of (get_or s at 0)) (length s)) (get_or s at 0) 0 ≡ pick (ltb 7 (get_or s at 0)) (get_or s at 0) 0
+          whole true e = pick_true _ (get_or s at 0) 0 e ∙ sym (pick_true (ltb 7 (get_or s at 0)) (get_or s at 0) 0 (lt-ltb 7 _ (known e (kind_missing q))))
+          whole false e = pick_false _ (get_or s at 0) 0 e ∙ none e (ltb 7 (get_or s at 0)) refl
 
   pub is_fill : kind_at s at ≡ Some Fill → (fill_at s at ≡ command_at s at) × (at + 97 ≤ length s)
   is_fill q = let w = stands Fill q in (command_fill s at w.0 w.1, subst (λ n. at + n ≤ length s) length_fill w.1)
