@@ -30,7 +30,7 @@ pub fn clip_rect(boxes: &[f64], number: u64, rect: Rect) -> Rect
     box_of_all(boxes, number).map_or(rect, |all| rect.intersect(all))
 }
 
-// The box of all clips for one more on top of a number.
+// The box of all clips for one more on top of a number: not `clip_rect`, whose box comes first, since the order decides which zero or NaN stays.
 #[tactic(auto, unfolding(crate::specs::Chains::all_with, crate::specs::Chains::all_up_to))]
 fn all_with(boxes: &[f64], top: u64, rect: Rect) -> Rect
     requires { 8 * top ≤ length boxes.now }

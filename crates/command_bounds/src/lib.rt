@@ -18,7 +18,8 @@ pub fn kind_at(s: &[u8], at: usize) -> Option<Kind>
     (kind.length() <= s.len() - at).then_some(kind)
 }
 
-// Whether a command of this kind stands whole at an offset: one byte is compared, where `kind_at` tells all kinds apart.
+// Whether a command of this kind stands whole at an offset. Where the kind is written in the call one comparison of a byte is left of it, which
+// `kind_at` with `==` takes several for.
 pub fn stands(s: &[u8], at: usize, kind: Kind) -> bool
     ensures whole { result ≡ true → kind_at s.now at ≡ Some kind }
     ensures else_not { result ≡ false → kind_at s.now at ≡ Some kind → ⊥ }
@@ -29,7 +30,8 @@ pub fn stands(s: &[u8], at: usize, kind: Kind) -> bool
     Kind::try_from(s[at]) == Ok(kind) && kind.length() <= s.len() - at
 }
 
-// What stands for an affine where no drawing command stands whole. No Option: a function of every offset has an answer at each.
+// What stands for an affine where no drawing command stands whole. No Option: who calls knows that one
+// stands there, and would have to take it apart.
 const NONE: Affine = Affine {
     a: 0.0,
     b: 0.0,

@@ -8,7 +8,7 @@ ghost use Rattle.display_list.specs.Lists as Lists;
 use affine::Affine;
 use geometry::Rect;
 
-// How many clips and commands were pushed, the number of the innermost open clip (0 is none), and how many
+// How many clips and commands were pushed, the number of the innermost open clip (0 is none, as in `clips`), and how many
 // clips are open.
 #[derive(Clone, Copy, PartialEq, Eq, Debug)]
 pub struct ListState {

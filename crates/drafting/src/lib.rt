@@ -40,8 +40,8 @@ fn index_draft(
 }
 
 // The plan of the first n rectangles and of the commands that have these boxes, in scratch: regions and index words in front of the
-// space lent for them; `work` and `spans` are scratch. The rectangles keep their number beside them: where they do not fit, there are
-// more than the slice holds.
+// space lent for them; `work` and `spans` are scratch, all slices as C lends them. The rectangles keep their number beside them: where they do not fit,
+// there are more than the slice holds.
 pub fn draft(
     screen: Screen,
     room: Room,

@@ -100,7 +100,8 @@ fn screen_rect(screen: Screen) -> Rect
     }
 }
 
-// A first frame: all its commands are new, and its one rectangle is the whole screen. The slices stay slices, for `draft_frame`'s reason.
+// A first frame: all its commands are new, and its one rectangle is the whole screen. The slices stay slices, here and in
+// the two below, for `draft_frame`'s reason.
 fn list_first(
     s: &[u8],
     screen: Screen,

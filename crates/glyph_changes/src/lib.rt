@@ -14,7 +14,7 @@ use rect_list::RectList;
 use strip_format::{GLYPH_LENGTH, rect_inside};
 
 // A run's glyphs: where the bytes of the first one begin, how many there are, and the transform and the clip
-// number that bring them to the window.
+// number, of which 0 is none as in `clips`, that bring them to the window.
 #[derive(Clone, Copy, Debug, PartialEq)]
 pub struct Run {
     pub glyphs: usize,

@@ -84,7 +84,8 @@ pub fn u64_inside(s: &[u8], at: usize) -> u64
     u64::from_le_bytes(bytes_inside(s, at))
 }
 
-// Whether a pattern is a finite f64's: its exponent is not all ones. std's `is_finite` asks a float, and no float is made of a pattern that may be a NaN's.
+// Whether a pattern is a finite f64's: its exponent is not all ones. std's `is_finite` asks a float, and one of a pattern that may be a NaN's is
+// made by a branch (`f64_from_bits_with_nan`), to test what the pattern shows.
 pub fn finite64(bits: u64) -> bool
     ensures { result ≡ finite (of_bits binary64 bits) }
 {

@@ -1,5 +1,5 @@
-// The entries as the two panels call them: what a call answers and leaves in its slices is what the planner says of which
-// crate `panels` proves that the panels agree.
+// The entries as the two panels call them: what a call answers and leaves in its slices is what the planner of crate `panels` says, for which both
+// panels are proved to agree.
 #![tactic(auto)]
 
 ghost use Rattle.planner.specs.Calls.{slices};

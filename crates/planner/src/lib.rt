@@ -45,6 +45,7 @@ fn publish(
     lists::copy_front(draft_words, accepted.words, words);
 }
 
+// The scratch is cleared in two functions of five slices, of which no two lists are alike.
 fn clear_lists(
     boxes: &mut [f64],
     below: &mut [u64],

@@ -1,5 +1,6 @@
 // Dew's frame comparison, `changed_bounds` and `diff_dirty`, over two display lists in one lent space. Boxes of
-// what changed are appended to a list of their own; nothing else is stored.
+// what changed are appended to a list of their own; nothing else is stored. That places lie within a list's slices, and that clip numbers stand on
+// one another (`Rooted`), is asked of callers: the slices are as they were lent, and any five make a `ListSpace`.
 #![tactic(auto)]
 
 ghost use Rattle.std.specs.Prelude.{◌≡◌, true, ◌&&◌, [], ◌∷◌, ◌+◌, ◌*◌, ◌^◌, ◌≤◌, ◌<◌, length};

@@ -30,8 +30,8 @@ const MOST_COMMANDS: u64 = 4096;
 const MOST_GLYPHS: u64 = 16384;
 
 // Where reading stands: the offset, how many clips are open, what has been counted, how many glyphs are due of the run at
-// `run`, and the union of its glyph boxes so far. Both are of a run only while glyphs are due, and no Option: the definitions of a cursor
-// are over them.
+// `run`, and the union of its glyph boxes so far. Where none is due both stay what they were, and nothing reads them: an Option of the run would
+// be taken apart and put together again at each glyph.
 #[derive(Clone, Copy, Debug, PartialEq)]
 pub struct Cursor {
     pub at: usize,

@@ -1,4 +1,4 @@
-// A strip held together with the offset at which it is read, above the cursor's functions. The one at the end has plain parameters.
+// A strip held together with the offset at which it is read, above the cursor's functions; and `read_behind`, for callers that have a strip and a cursor.
 ghost use Rattle.std.specs.Prelude.{◌≡◌};
 ghost use Rattle.strip.specs.Reading as Reading;
 

@@ -1,6 +1,7 @@
 // The strip's bytes: how long each command is, and the drawing command or glyph that stands at
 // an offset, whatever the offset: past the end every byte counts as 0. What is compared later is decoded here again, so it
-// is what was read.
+// is what was read. That bytes are all there, or floats finite, is asked of an offset and the slice beside it, here and in the crates above: no type
+// of one of the two could say it.
 #![tactic(auto)]
 
 ghost use Rattle.std.specs.Prelude.{◌≡◌, ◌+◌, ◌*◌, ◌%◌, ◌^◌, ◌≤◌, ◌<◌, ltb, length, true};
@@ -80,7 +81,7 @@ pub fn length_of(byte: u8) -> usize
     }
 }
 
-// Where the affine of a drawing command stands.
+// Where the affine of a drawing command stands, and where its box does: two functions, since each is the format's own row of three places.
 #[tactic(auto, unfolding(crate::specs::Format::affine_offset))]
 pub fn affine_offset(at: usize, kind: Kind) -> usize
     requires { at + 41 < 2 ^ 64 }
@@ -93,7 +94,6 @@ pub fn affine_offset(at: usize, kind: Kind) -> usize
     }
 }
 
-// Where its box stands.
 #[tactic(auto, unfolding(crate::specs::Format::rect_offset))]
 pub fn rect_offset(at: usize, kind: Kind) -> usize
     requires { at + 73 < 2 ^ 64 }
@@ -136,8 +136,9 @@ pub fn all_finite(s: &[u8], at: usize, n: usize) -> bool
     true
 }
 
-// The N f64 from an offset on, whose bytes are all there and which were found to be finite: none is tested again. A loop, here and in `floats_at`: what
-// `array::from_fn` asks of its closure it asks for any values captured, and so the bytes that the closure reads could not be shown to be there.
+// The N f64 from an offset on, whose bytes are all there and which were found to be finite: none is tested again. Beside `floats_at`, which asks of each
+// whether it is there. A loop in both: what `array::from_fn` asks of its closure it asks for any values captured, and so neither the offsets nor the bytes
+// that the closure reads could be shown to fit.
 fn floats_finite<const N: usize>(s: &[u8], at: usize) -> [f64; N]
     requires { (at + 8 * N ≤ length s.now) × AllFinite s.now at N }
     ensures { FloatsFrom s.now at N result }
@@ -351,7 +352,8 @@ fn blank() -> DrawCommand
     }
 }
 
-// The drawing command at an offset, and one without content where none stands whole: no Option, since every offset has an answer.
+// The drawing command at an offset, and one without content where none stands whole. No Option: who calls knows that one stands there, and would have
+// to take it apart.
 pub fn command_at(s: &[u8], at: usize) -> DrawCommand
     ensures { result ≡ Format.command_at s.now at }
 {
