@@ -3,6 +3,7 @@
 
 use device::DeviceRegion;
 use geometry::Rect;
+use rows::Rows;
 use std::io;
 
 // A region by its numbers, or the word nothing.
@@ -22,8 +23,12 @@ fn print_converted(rt: &impl Print, name: &str, answer: Option<DeviceRegion>) ->
 }
 
 fn print_rows(rt: &impl Print, name: &str, y0: f64, y1: f64) -> io::Result<()> {
-    let first = rows::row_of(y0, 16, 3);
-    let last = rows::final_row(y1, 16, 3);
+    let rows = Rows {
+        band_height: 16,
+        count: 3,
+    };
+    let first = rows.row_of(y0);
+    let last = rows.final_row(y1);
     println!(rt; "{name} {first} {last}")
 }
 

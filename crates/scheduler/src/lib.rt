@@ -38,7 +38,7 @@ fn put_region(out: &mut [u32], at: usize, r: DeviceRegion)
     out[4 * at..4 * at + 4].copy_from_slice(&[r.x, r.y, r.width, r.height]);
 }
 
-// Writes the regions of work to the front of out, and counts their pixels. By number, since a region stands in both slices.
+// Writes the regions of work to the front of out, and counts their pixels. By number: `zip` was tried, and the proof doesn't close.
 fn put_band(work: &[u64], out: &mut [u32]) -> u64
     requires { (length work.now ≤ 32768) × (4 * length work.now ≤ length out.old) }
     ensures value { result ≡ Schedule.pixels_of (map Keys.from_yx work.now) }
