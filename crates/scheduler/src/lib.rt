@@ -38,15 +38,16 @@ fn put_region(out: &mut [u32], at: usize, r: DeviceRegion)
     out[4 * at..4 * at + 4].copy_from_slice(&[r.x, r.y, r.width, r.height]);
 }
 
-// Writes the regions of work to the front of out, and counts their pixels. By number: `zip` was tried, and the proof doesn't close.
+// Writes the regions of work to the front of out, and counts their pixels. A region's words go by number: `zip` was tried, and
+// the proof doesn't close.
 fn put_band(work: &[u64], out: &mut [u32]) -> u64
     requires { (length work.now ≤ 32768) × (4 * length work.now ≤ length out.old) }
     ensures value { result ≡ Schedule.pixels_of (map Keys.from_yx work.now) }
     ensures out_after { out.new ≡ Schedule.words_of (map Keys.from_yx work.now) ++ drop (4 * length work.now) out.old }
 {
     let mut sum: u64 = 0;
-    for i in 0..work.len() {
-        let r = bands::from_yx(work[i]);
+    for (i, key) in work.iter().enumerate() {
+        let r = bands::from_yx(*key);
         put_region(out, i, r);
         sum += r.area();
     }
