@@ -1,10 +1,9 @@
 -- What sizes are that fit. Assumes nothing.
 use Rattle.std.proofs.Common.{◌≡◌, ℕ, ◌<◌, ◌≤◌, Bool, true, false, ◌&&◌, eqb, leb, refl, arith, leb-true}
-use lib.Ieee.Fits.{and_l, and_r}
 use borrow.Author.Tests.{eqb-false}
 use mathlib.Core.Bool.{false≢true}
 use Rattle.lists.specs.Pick.{pick}
-use Rattle.lists.proofs.Bools.{holds, is_true}
+use Rattle.std.proofs.lemmas.Bool.{and_parts}
 use Rattle.screen.specs.declared.Screen.{Screen}
 use Rattle.screen.specs.Sizes.{size_fits, fits}
 
@@ -27,9 +26,9 @@ pub record Fits (s : Screen) : Type 0 where
 
 pub sizes_of : (s : Screen) → fits s ≡ true → Fits s
 sizes_of s e =
-    let t = holds _ e in
-    let u = and_r (size_fits s.width) (size_fits s.height && size_fits s.band_height) t in
-    let a = size_of s.width (is_true _ (and_l (size_fits s.width) (size_fits s.height && size_fits s.band_height) t)) in
-    let b = size_of s.height (is_true _ (and_l (size_fits s.height) (size_fits s.band_height) u)) in
-    let c = size_of s.band_height (is_true _ (and_r (size_fits s.height) (size_fits s.band_height) u)) in
+    let t = and_parts (size_fits s.width) (size_fits s.height && size_fits s.band_height) e in
+    let u = and_parts (size_fits s.height) (size_fits s.band_height) t.1 in
+    let a = size_of s.width t.0 in
+    let b = size_of s.height u.0 in
+    let c = size_of s.band_height u.1 in
     record { some_width = a.0; width_most = a.1; some_height = b.0; height_most = b.1; some_band = c.0; band_most = c.1 }
