@@ -8,8 +8,7 @@ use lib.Dec.{leb, ltb}
 use lib.ListN.{length}
 use lib.Ieee.{Float}
 use borrow.Author.Tests.{ltb-true, leb-true, lt-ltb, le-leb}
-use Rattle.std.proofs.lemmas.Bool.{and_parts}
-use Rattle.lists.proofs.Bools.{and_true}
+use Rattle.std.proofs.lemmas.Bool.{and_parts, and_from}
 use Rattle.clips.specs.Chains.{Room}
 use Rattle.display_list.specs.Lists.{clip_room, command_room}
 
@@ -27,7 +26,7 @@ pub fits_clip : (n x : ℕ) (bs : List Float) (ns : List ℕ) → Room n x bs ns
 unfolding clip_room
 fits_clip n x bs ns r =
     let h : n < length bs / 8 = omega arith in
-    and_true _ _ (and_true _ _ (le-leb x n r.lower) (lt-ltb n (length ns) r.numbers)) (lt-ltb n (length bs / 8) h)
+    and_from _ _ (and_from _ _ (le-leb x n r.lower) (lt-ltb n (length ns) r.numbers)) (lt-ltb n (length bs / 8) h)
 
 pub command_fits : (m items boxes : ℕ) → command_room m items boxes ≡ true → (2 * m + 2 ≤ items) × (4 * m + 4 ≤ boxes)
 unfolding command_room
@@ -42,4 +41,4 @@ unfolding command_room
 fits_command m items boxes h k =
     let p : m < items / 2 = omega arith in
     let q : m < boxes / 4 = omega arith in
-    and_true _ _ (lt-ltb m (items / 2) p) (lt-ltb m (boxes / 4) q)
+    and_from _ _ (lt-ltb m (items / 2) p) (lt-ltb m (boxes / 4) q)

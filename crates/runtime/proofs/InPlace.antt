@@ -10,9 +10,9 @@ use lib.ListN.{get_or}
 use lib.Ieee.{Float, binary32, to_bits}
 use borrow.Author.Tests.{eq-eqb, ne_eqb}
 use Rattle.std.specs.Prelude.{Some}
-use Rattle.std.proofs.lemmas.Bool.{and_parts}
+use Rattle.std.proofs.lemmas.Bool.{and_parts, and_from}
 use Rattle.lists.specs.Pick.{pick}
-use Rattle.lists.proofs.Bools.{and_off, and_true}
+use Rattle.lists.proofs.Bools.{and_off}
 use Rattle.lists.proofs.Picks.{pick_false}
 use Rattle.little_endian.specs.Words.{u16_at, u64_at, f32_at}
 use Rattle.little_endian.specs.Same.{SameBytes}
@@ -135,7 +135,7 @@ module _ (s : List ℕ) (bs : List Float) (ns : List ℕ) (a b : PlacedCommand) 
     where
       go : (t : Bool) → equal c d ≡ t → changed_by (windowed bs a.run) (windowed bs b.run) c.glyphs d.glyphs ≡ changed_bounds c d
       go true e = none_changed _ _ c.glyphs d.glyphs (glyphs_equal e) ∙ case_equal s bs ns a b w (sym e) refl
-      go false e = case_runs s bs ns a b w (sym e) refl (sym x.0) refl (sym (and_true _ _ x.1 k)) refl
+      go false e = case_runs s bs ns a b w (sym e) refl (sym x.0) refl (sym (and_from _ _ x.1 k)) refl
 
 -- ---- at two places of a list: what changed in its glyphs
 module _ (i j : ℕ) (s : List ℕ) (bs : List Float) (ns is : List ℕ) (ibs : List Float) (w : Both i j s bs ns is ibs) where

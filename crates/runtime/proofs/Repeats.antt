@@ -8,8 +8,7 @@ use lib.Dec.{eqb}
 use lib.ListN.{length, get_or}
 use lib.Ieee.{Float}
 use borrow.Author.Tests.{eqb-true}
-use Rattle.std.proofs.lemmas.Bool.{and_parts}
-use Rattle.lists.proofs.Bools.{and_true}
+use Rattle.std.proofs.lemmas.Bool.{and_parts, and_from}
 use Rattle.lists.proofs.Picks.{pick_true, pick_cases}
 use Rattle.little_endian.specs.Words.{u16_at}
 use Rattle.little_endian.specs.Same.{SameBytes}
@@ -75,7 +74,7 @@ module _ (s : List ℕ) where
   glyphs_self : (n at : ℕ) → equal_glyphs (glyphs_from s at n) (glyphs_from s at n) ≡ true
   unfolding glyphs_from equal_glyphs
   glyphs_self zero at = refl
-  glyphs_self (suc n) at = and_true _ _ (equal_glyph_self (glyph_at s at) (single_finite s (at + 5)) (single_finite s (at + 9)) (rect_numbers s (at + 13))) (glyphs_self n (at + 45))
+  glyphs_self (suc n) at = and_from _ _ (equal_glyph_self (glyph_at s at) (single_finite s (at + 5)) (single_finite s (at + 9)) (rect_numbers s (at + 13))) (glyphs_self n (at + 45))
 
   pub same_equal : (p q : ℕ) (l m : List Rect) → command_of s p [] ≡ command_of s q [] → same_clips l m ≡ true → equal (command_of s p l) (command_of s q m) ≡ true
   unfolding equal
@@ -83,7 +82,7 @@ module _ (s : List ℕ) where
       let c = command_of s p [] in
       let d : same_drawing c.draw (command_at s q) ≡ true = ap (λ (x : Command). same_drawing c.draw x.draw) (sym e) ∙ drawing_self (command_at s p) (draw_numbers s p) (size_finite p) in
       let g : equal_glyphs c.glyphs (command_of s q []).glyphs ≡ true = ap (λ (x : Command). equal_glyphs c.glyphs x.glyphs) (sym e) ∙ glyphs_self (glyph_count (command_at s p)) (p + 103) in
-      and_true _ _ (and_true _ _ d g) f
+      and_from _ _ (and_from _ _ d g) f
 
 -- ---- what equal commands tell
 equal_none : (c d : Command) (l : List Rect) → equal c d ≡ true → changed_bounds c d ++ l ≡ l
