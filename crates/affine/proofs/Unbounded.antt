@@ -6,7 +6,8 @@ use lib.Dec.{T}
 use lib.Ieee.{Float, binary64}
 use lib.Ieee.Scale.{finite}
 use Rattle.lists.specs.Pick.{pick}
-use Rattle.lists.proofs.Bools.{is_false, not_both, and_false, and_either, off_1, off_2, off_3, off_4}
+use Rattle.std.proofs.lemmas.Bool.{and_right, and_cases}
+use Rattle.lists.proofs.Bools.{is_false, not_both, off_1, off_2, off_3, off_4}
 use Rattle.ieee.proofs.Finite.{mul_finite, add_finite}
 use Rattle.geometry.specs.declared.Rect.{Rect}
 use Rattle.affine.specs.declared.Affine.{Affine}
@@ -40,11 +41,11 @@ edge_corner t b (inr (inr (inr e))) = inr (inr (inl (along_unbounded t b.x0 b.y1
 point_told : (p : Point) → UnboundedPoint p → finite_point p ≡ false
 unfolding finite_point
 point_told p (inl e) = rw e
-point_told p (inr e) = and_false (finite p.x) (finite p.y) e
+point_told p (inr e) = and_right (finite p.x) (finite p.y) e
 
 told_point : (p : Point) → finite_point p ≡ false → UnboundedPoint p
 unfolding finite_point
-told_point p e = and_either (finite p.x) (finite p.y) e
+told_point p e = and_cases (finite p.x) (finite p.y) e
 
 module _ (p q r s : Point) where
   points_told : UnboundedPoint p ⊎ UnboundedPoint q ⊎ UnboundedPoint r ⊎ UnboundedPoint s → all_finite p q r s ≡ false
@@ -56,18 +57,18 @@ module _ (p q r s : Point) where
 
   told_points : all_finite p q r s ≡ false → UnboundedPoint p ⊎ UnboundedPoint q ⊎ UnboundedPoint r ⊎ UnboundedPoint s
   unfolding all_finite
-  told_points e = last (and_either (finite_point p && finite_point q && finite_point r) (finite_point s) e)
+  told_points e = last (and_cases (finite_point p && finite_point q && finite_point r) (finite_point s) e)
     where
       first : (finite_point p ≡ false) ⊎ (finite_point q ≡ false) → UnboundedPoint p ⊎ UnboundedPoint q ⊎ UnboundedPoint r ⊎ UnboundedPoint s
       first (inl u) = inl (told_point p u)
       first (inr u) = inr (inl (told_point q u))
 
       middle : ((finite_point p && finite_point q) ≡ false) ⊎ (finite_point r ≡ false) → UnboundedPoint p ⊎ UnboundedPoint q ⊎ UnboundedPoint r ⊎ UnboundedPoint s
-      middle (inl u) = first (and_either (finite_point p) (finite_point q) u)
+      middle (inl u) = first (and_cases (finite_point p) (finite_point q) u)
       middle (inr u) = inr (inr (inl (told_point r u)))
 
       last : ((finite_point p && finite_point q && finite_point r) ≡ false) ⊎ (finite_point s ≡ false) → UnboundedPoint p ⊎ UnboundedPoint q ⊎ UnboundedPoint r ⊎ UnboundedPoint s
-      last (inl u) = middle (and_either (finite_point p && finite_point q) (finite_point r) u)
+      last (inl u) = middle (and_cases (finite_point p && finite_point q) (finite_point r) u)
       last (inr u) = inr (inr (inr (told_point s u)))
 
 -- ---- the case, both ways

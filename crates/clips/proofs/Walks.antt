@@ -7,18 +7,15 @@ use native.Mathlib.Omega.{arith}
 use lib.Dec.{eqb}
 use lib.Ieee.{Float}
 use borrow.Author.Tests.{eq-eqb, ne_eqb}
+use Rattle.std.proofs.Math.Bool.{and-true, and_assoc}
 use Rattle.lists.specs.Pick.{pick}
-use Rattle.lists.proofs.Bools.{and_false}
+use Rattle.std.proofs.lemmas.Bool.{and_right}
 use Rattle.geometry.specs.declared.Rect.{Rect}
 use Rattle.geometry.specs.Boxes.{same_edges}
 use Rattle.operand_equality.specs.Operands.{same_clips}
 use Rattle.clips.specs.Chains.{clip_at, below_at, chain_from, chain, Chained, Rooted}
 
 -- ---- lists compared at their last place
-and_assoc : (a b c : Bool) → (a && (b && c)) ≡ ((a && b) && c)
-and_assoc true b c = refl
-and_assoc false b c = refl
-
 none_more : (l : List Rect) (a : Rect) → same_clips [] (l ++ (a ∷ [])) ≡ false
 unfolding same_clips
 none_more [] a = refl
@@ -29,24 +26,20 @@ unfolding same_clips
 more_none [] a = refl
 more_none (b ∷ l) a = refl
 
-true_right : (b : Bool) → (b && true) ≡ b
-true_right true = refl
-true_right false = refl
-
 last_alone : (a c b : Rect) (l : List Rect) → same_clips (a ∷ []) (c ∷ (l ++ (b ∷ []))) ≡ false
 unfolding same_clips
-last_alone a c b l = and_false (same_edges a c) (same_clips [] (l ++ (b ∷ []))) (none_more l b)
+last_alone a c b l = and_right (same_edges a c) (same_clips [] (l ++ (b ∷ []))) (none_more l b)
 
 alone_last : (a c b : Rect) (l : List Rect) → same_clips (c ∷ (l ++ (b ∷ []))) (a ∷ []) ≡ false
 unfolding same_clips
-alone_last a c b l = and_false (same_edges c a) (same_clips (l ++ (b ∷ [])) []) (more_none l b)
+alone_last a c b l = and_right (same_edges c a) (same_clips (l ++ (b ∷ [])) []) (more_none l b)
 
 pub same_last : (l m : List Rect) (a b : Rect) → same_clips (l ++ (a ∷ [])) (m ++ (b ∷ [])) ≡ (same_clips l m && same_edges a b)
 unfolding same_clips
-same_last [] [] a b = true_right (same_edges a b)
+same_last [] [] a b = and-true (same_edges a b)
 same_last [] (d ∷ m) a b = last_alone a d b m
 same_last (c ∷ l) [] a b = alone_last b c a l
-same_last (c ∷ l) (d ∷ m) a b = ap (λ (z : Bool). same_edges c d && z) (same_last l m a b) ∙ and_assoc (same_edges c d) (same_clips l m) (same_edges a b)
+same_last (c ∷ l) (d ∷ m) a b = ap (λ (z : Bool). same_edges c d && z) (same_last l m a b) ∙ sym (and_assoc (same_edges c d) (same_clips l m) (same_edges a b))
 
 -- ---- what is left of two chains is the whole comparison
 pub record Left (bs : List Float) (ns : List ℕ) (a b x y : ℕ) : Type 0 where
@@ -105,28 +98,29 @@ module _ (bs : List Float) (ns : List ℕ) (a b x y : ℕ) (w : Left bs ns a b x
         let n = chain_more w.other_steps bs ns y h w.other_enough in
         (m.0, n.0, m.1, n.1, sym (same_last (chain_from m.0 bs ns (below_at ns x)) (chain_from n.0 bs ns (below_at ns y)) (clip_at bs x) (clip_at bs y)) ∙ sym (λ i. same_clips (m.2 i) (n.2 i)) ∙ w.whole)
 
-    pub left_stop : same_edges (clip_at bs x) (clip_at bs y) ≡ false → false ≡ Whole
-    left_stop e = let s = split in sym (and_false (same_clips (chain_from s.0 bs ns (below_at ns x)) (chain_from s.1 bs ns (below_at ns y))) (same_edges (clip_at bs x) (clip_at bs y)) e) ∙ s.4
+    -- by a call's answer t for two boxes that were read
+    module _ {t : Bool} {c d : Rect} (p : t ≡ same_edges c d) (q : c ≡ clip_at bs x) (u : d ≡ clip_at bs y) where
+      told : {r : Bool} → t ≡ r → (same_clips (chain_from split.0 bs ns (below_at ns x)) (chain_from split.1 bs ns (below_at ns y)) && r) ≡ Whole
+      told e = ap (λ r. same_clips (chain_from split.0 bs ns (below_at ns x)) (chain_from split.1 bs ns (below_at ns y)) && r) (sym e ∙ p ∙ (λ i. same_edges (q i) (u i))) ∙ split.4
 
-    pub left_next : same_edges (clip_at bs x) (clip_at bs y) ≡ true → (below_at ns x < x) × Left bs ns a b (below_at ns x) (below_at ns y)
-    left_next e =
-        let s = split in
-        let l : below_at ns x ≤ x - 1 = w.chained.lower (x - 1) (omega arith) in
-        let m : below_at ns y ≤ y - 1 = w.chained.lower (y - 1) (omega arith) in (
-          omega arith,
-          record {
-            used = w.used;
-            chained = w.chained;
-            one = omega arith;
-            other = omega arith;
-            steps = s.0;
-            other_steps = s.1;
-            enough = omega arith;
-            other_enough = omega arith;
-            whole = sym (ap (λ t. same_clips (chain_from s.0 bs ns (below_at ns x)) (chain_from s.1 bs ns (below_at ns y)) && t) e ∙ true_right _) ∙ s.4;
-          },
-        )
+      pub left_stop : t ≡ false → false ≡ Whole
+      left_stop e = sym (and_right _ false refl) ∙ told e
 
--- a call's answer for two boxes that were read, as a test of those in the space
-pub edges_via : {r t : Bool} {a b c d : Rect} → r ≡ same_edges a b → a ≡ c → b ≡ d → r ≡ t → same_edges c d ≡ t
-edges_via {r} {t} {a} {b} {c} {d} p q u v = sym (p ∙ ap (λ z. same_edges z b) q ∙ ap (λ z. same_edges c z) u) ∙ v
+      pub left_next : t ≡ true → (below_at ns x < x) × Left bs ns a b (below_at ns x) (below_at ns y)
+      left_next e =
+          let s = split in
+          let l : below_at ns x ≤ x - 1 = w.chained.lower (x - 1) (omega arith) in
+          let m : below_at ns y ≤ y - 1 = w.chained.lower (y - 1) (omega arith) in (
+            omega arith,
+            record {
+              used = w.used;
+              chained = w.chained;
+              one = omega arith;
+              other = omega arith;
+              steps = s.0;
+              other_steps = s.1;
+              enough = omega arith;
+              other_enough = omega arith;
+              whole = sym (and-true _) ∙ told e;
+            },
+          )

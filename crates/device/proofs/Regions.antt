@@ -19,13 +19,14 @@ use Rattle.geometry.proofs.Edges.{Ordered}
 use Rattle.geometry.proofs.Values.{SameBox}
 use Rattle.device.specs.declared.DeviceRegion.{DeviceRegion}
 use Rattle.device.specs.Region.{between, from_logical, has}
-use Rattle.lists.proofs.Bools.{and_false, and_off, and_true, same_bool}
+use Rattle.std.proofs.lemmas.Bool.{and_right, and_from}
+use Rattle.lists.proofs.Bools.{and_off, same_bool}
 
 -- ---- the answers, by the sides
 module _ (x y r d : ℕ) where
   pub between_yes : x < r → y < d → Some (record { x = x; y = y; width = r - x; height = d - y }) ≡ between x y r d
   unfolding between
-  between_yes h k = sym (pick_true (ltb x r && ltb y d) (Some (record { x = x; y = y; width = r - x; height = d - y })) None (and_true (ltb x r) (ltb y d) (lt-ltb x r h) (lt-ltb y d k)))
+  between_yes h k = sym (pick_true (ltb x r && ltb y d) (Some (record { x = x; y = y; width = r - x; height = d - y })) None (and_from (ltb x r) (ltb y d) (lt-ltb x r h) (lt-ltb y d k)))
 
   between_no : (ltb x r && ltb y d) ≡ false → None ≡ between x y r d
   unfolding between
@@ -35,7 +36,7 @@ module _ (x y r d : ℕ) where
   between_narrow h = between_no (sym (and_off (ltb x r) (ltb y d) (le-ltb x r h)))
 
   pub between_flat : d ≤ y → None ≡ between x y r d
-  between_flat h = between_no (and_false (ltb x r) (ltb y d) (le-ltb y d h))
+  between_flat h = between_no (and_right (ltb x r) (ltb y d) (le-ltb y d h))
 
 -- a low edge may be cut at the screen or not
 pub low_cut : (a b u v w h : ℕ) → between (min a w) (min b h) (min u w) (min v h) ≡ between a b (min u w) (min v h)

@@ -7,37 +7,33 @@ use native.Mathlib.Omega.{arith}
 use lib.Dec.{leb, ltb}
 use lib.ListN.{length}
 use lib.Ieee.{Float}
-use lib.Ieee.Fits.{and_l, and_r}
 use borrow.Author.Tests.{ltb-true, leb-true, lt-ltb, le-leb}
-use Rattle.lists.proofs.Bools.{and_true, holds, is_true}
+use Rattle.std.proofs.lemmas.Bool.{and_parts, and_from}
 use Rattle.clips.specs.Chains.{Room}
 use Rattle.display_list.specs.Lists.{clip_room, command_room}
 
 pub clip_fits : (n x : ℕ) (bs : List Float) (ns : List ℕ) → clip_room n x (length bs) (length ns) ≡ true → Room n x bs ns
 unfolding clip_room
 clip_fits n x bs ns e =
-    let a = leb x n in
-    let b = ltb n (length ns) in
-    let c = ltb n (length bs / 8) in
-    let t = holds (a && b && c) e in
-    let p = leb-true x n (is_true a (and_l a b (and_l (a && b) c t))) in
-    let q = ltb-true n (length ns) (is_true b (and_r a b (and_l (a && b) c t))) in
-    let r = ltb-true n (length bs / 8) (is_true c (and_r (a && b) c t)) in
+    let t = and_parts (leb x n && ltb n (length ns)) (ltb n (length bs / 8)) e in
+    let u = and_parts (leb x n) (ltb n (length ns)) t.0 in
+    let p = leb-true x n u.0 in
+    let q = ltb-true n (length ns) u.1 in
+    let r = ltb-true n (length bs / 8) t.1 in
     record { boxes = omega arith; numbers = q; lower = p }
 
 pub fits_clip : (n x : ℕ) (bs : List Float) (ns : List ℕ) → Room n x bs ns → clip_room n x (length bs) (length ns) ≡ true
 unfolding clip_room
 fits_clip n x bs ns r =
     let h : n < length bs / 8 = omega arith in
-    and_true _ _ (and_true _ _ (le-leb x n r.lower) (lt-ltb n (length ns) r.numbers)) (lt-ltb n (length bs / 8) h)
+    and_from _ _ (and_from _ _ (le-leb x n r.lower) (lt-ltb n (length ns) r.numbers)) (lt-ltb n (length bs / 8) h)
 
 pub command_fits : (m items boxes : ℕ) → command_room m items boxes ≡ true → (2 * m + 2 ≤ items) × (4 * m + 4 ≤ boxes)
 unfolding command_room
 command_fits m items boxes e =
-    let a = ltb m (items / 2) in
-    let b = ltb m (boxes / 4) in
-    let p = ltb-true m (items / 2) (is_true a (and_l a b (holds (a && b) e))) in
-    let q = ltb-true m (boxes / 4) (is_true b (and_r a b (holds (a && b) e))) in
+    let t = and_parts (ltb m (items / 2)) (ltb m (boxes / 4)) e in
+    let p = ltb-true m (items / 2) t.0 in
+    let q = ltb-true m (boxes / 4) t.1 in
     (omega arith, omega arith)
 
 pub fits_command : (m items boxes : ℕ) → 2 * m + 2 ≤ items → 4 * m + 4 ≤ boxes → command_room m items boxes ≡ true
@@ -45,4 +41,4 @@ unfolding command_room
 fits_command m items boxes h k =
     let p : m < items / 2 = omega arith in
     let q : m < boxes / 4 = omega arith in
-    and_true _ _ (lt-ltb m (items / 2) p) (lt-ltb m (boxes / 4) q)
+    and_from _ _ (lt-ltb m (items / 2) p) (lt-ltb m (boxes / 4) q)

@@ -1,13 +1,13 @@
 -- Equal commands have equal boxes, by value, and so have the parts of commands that are alike. Every float compared is an f64 and no NaN. Assumes nothing.
 use mathlib.Core.Path.{◌≡◌, refl, sym}
-use mathlib.Core.Bool.{Bool, true, ◌&&◌, true≢false}
+use mathlib.Core.Bool.{true, ◌&&◌, true≢false}
 use mathlib.Core.List.{List, [], ◌∷◌}
 use Prim.Native.Nat.{ℕ}
 use lib.Dec.{T, eqb}
 use lib.Ieee.{Float, eq}
-use lib.Ieee.Fits.{and_l, and_r}
+use Rattle.std.proofs.lemmas.Bool.{and_parts}
 use Rattle.lists.specs.Members.{All}
-use Rattle.lists.proofs.Bools.{holds, is_true}
+use Rattle.lists.proofs.Bools.{holds}
 use Rattle.ieee.proofs.Rank.{ordered}
 use Rattle.ieee.proofs.Values.{Same, same_value}
 use Rattle.geometry.specs.declared.Rect.{Rect}
@@ -34,10 +34,6 @@ use Rattle.equality.specs.Drawings.{same_fill, same_stroked, same_run, same_scen
 abbrev pub Good : Float → Type 0
 Good x = T (ordered x)
 
--- two tests that hold together
-both : (a b : Bool) → (a && b) ≡ true → (a ≡ true) × (b ≡ true)
-both a b e = (is_true a (and_l a b (holds (a && b) e)), is_true b (and_r a b (holds (a && b) e)))
-
 value : (x y : Float) → Good x → Good y → eq x y ≡ true → Same x y
 value x y p q e = same_value x y p q (holds (eq x y) e)
 
@@ -45,11 +41,11 @@ value x y p q e = same_value x y p q (holds (eq x y) e)
 pub affine_same : (s t : Affine) → Entries Good s → Entries Good t → same_affine s t ≡ true → SameAffine s t
 unfolding same_affine
 affine_same s t p q e =
-    let h = both _ _ e in
-    let k = both _ _ h.0 in
-    let m = both _ _ k.0 in
-    let n = both _ _ k.1 in
-    let o = both _ _ h.1 in
+    let h = and_parts _ _ e in
+    let k = and_parts _ _ h.0 in
+    let m = and_parts _ _ k.0 in
+    let n = and_parts _ _ k.1 in
+    let o = and_parts _ _ h.1 in
     record {
       a = value s.a t.a p.a q.a m.0;
       b = value s.b t.b p.b q.b m.1;
@@ -85,10 +81,10 @@ cap_is C.Round C.Square e = absurd (true≢false (sym e))
 pub stroke_same : (s t : Stroke) → Good s.width → Good s.miter_limit → Good t.width → Good t.miter_limit → same_stroke s t ≡ true → SameStroke s t
 unfolding same_stroke
 stroke_same s t a b c d e =
-    let h = both _ _ (both _ _ e).0 in
-    let k = both _ _ h.0 in
-    let m = both _ _ h.1 in
-    let n = both _ _ m.1 in
+    let h = and_parts _ _ (and_parts _ _ e).0 in
+    let k = and_parts _ _ h.0 in
+    let m = and_parts _ _ h.1 in
+    let n = and_parts _ _ m.1 in
     record {
       width = value s.width t.width a c k.0;
       limit = value s.miter_limit t.miter_limit b d k.1;
@@ -103,7 +99,7 @@ unfolding same_clips SameBoxes All
 clips_same [] [] p q e = tt
 clips_same [] (d ∷ ds) p q e = true≢false (sym e)
 clips_same (c ∷ cs) [] p q e = true≢false (sym e)
-clips_same (c ∷ cs) (d ∷ ds) p q e = let h = both (same_edges c d) (same_clips cs ds) e in (edges_same c d p.0 q.0 h.0, clips_same cs ds p.1 q.1 h.1)
+clips_same (c ∷ cs) (d ∷ ds) p q e = let h = and_parts (same_edges c d) (same_clips cs ds) e in (edges_same c d p.0 q.0 h.0, clips_same cs ds p.1 q.1 h.1)
 
 pub glyphs_same : (gs hs : List Glyph) → All (λ g. Ordered g.bounds) gs → All (λ g. Ordered g.bounds) hs → equal_glyphs gs hs ≡ true → SameInk gs hs
 unfolding equal_glyphs equal_glyph SameInk All
@@ -111,16 +107,16 @@ glyphs_same [] [] p q e = tt
 glyphs_same [] (h ∷ hs) p q e = true≢false (sym e)
 glyphs_same (g ∷ gs) [] p q e = true≢false (sym e)
 glyphs_same (g ∷ gs) (h ∷ hs) p q e =
-    let k = both (same_glyph g h && same_edges g.bounds h.bounds) (equal_glyphs gs hs) e in
-    (edges_same g.bounds h.bounds p.0 q.0 (both (same_glyph g h) (same_edges g.bounds h.bounds) k.0).1, glyphs_same gs hs p.1 q.1 k.1)
+    let k = and_parts (same_glyph g h && same_edges g.bounds h.bounds) (equal_glyphs gs hs) e in
+    (edges_same g.bounds h.bounds p.0 q.0 (and_parts (same_glyph g h) (same_edges g.bounds h.bounds) k.0).1, glyphs_same gs hs p.1 q.1 k.1)
 
 -- ---- commands: equal affines and local boxes
 -- what the operands shared by fills and strokes tell
 path_same : (n m : ℕ) (b b' : Rect) (t t' : Affine) (k l : ℕ) → Edges Good b → Edges Good b' → Entries Good t → Entries Good t' → same_path n b t k m b' t' l ≡ true → SameAffine t t' × SameBox b b'
 unfolding same_path
 path_same n m b b' t t' k l p p' q q' e =
-    let h = both (eqb n m && same_edges b b') (same_affine t t' && eqb k l) e in
-    (affine_same t t' q q' (both (same_affine t t') (eqb k l) h.1).0, edges_same b b' p p' (both (eqb n m) (same_edges b b') h.0).1)
+    let h = and_parts (eqb n m && same_edges b b') (same_affine t t' && eqb k l) e in
+    (affine_same t t' q q' (and_parts (same_affine t t') (eqb k l) h.1).0, edges_same b b' p p' (and_parts (eqb n m) (same_edges b b') h.0).1)
 
 module _ (b : Rect) (t : Affine) (p : Edges Good b) (q : Entries Good t) (hs : List Glyph) where
   fill_same : (n k : ℕ) (d : DrawCommand) → DrawFloats Good d → same_fill n b t k d ≡ true → SameAffine t (transform_of d) × SameBox b (local_bounds d hs)
@@ -133,7 +129,7 @@ module _ (b : Rect) (t : Affine) (p : Edges Good b) (q : Entries Good t) (hs : L
   stroked_same : (n k : ℕ) (s : Stroke) (d : DrawCommand) → Good s.width → Good s.miter_limit → DrawFloats Good d → same_stroked n b t s k d ≡ true → SameAffine t (transform_of d) × SameBox (inflate b (stroke_bounds_inflation s) (stroke_bounds_inflation s)) (local_bounds d hs)
   unfolding same_stroked
   stroked_same n k s (StrokePath m b' t' s' l) w x r e =
-      let h = both (same_path n b t k m b' t' l) (same_stroke s s') e in
+      let h = and_parts (same_path n b t k m b' t' l) (same_stroke s s') e in
       let u = path_same n m b b' t t' k l p r.0 q r.1 h.0 in
       let v = inflation_same s s' (stroke_same s s' w x r.2 r.3 h.1) in
       (u.0, inflate_same b b' _ _ _ _ u.1 v v)
@@ -144,9 +140,9 @@ module _ (b : Rect) (t : Affine) (p : Edges Good b) (q : Entries Good t) (hs : L
   scene_same : (x g y : ℕ) (d : DrawCommand) → DrawFloats Good d → same_scene x g y t b d ≡ true → SameAffine t (transform_of d) × SameBox b (local_bounds d hs)
   unfolding same_scene
   scene_same x g y (Scene x' g' y' t' b') r e =
-      let h = both ((eqb x x' && eqb g g') && (eqb y y' && same_affine t t')) (same_edges b b') e in
-      let k = both (eqb x x' && eqb g g') (eqb y y' && same_affine t t') h.0 in
-      (affine_same t t' q r.1 (both (eqb y y') (same_affine t t') k.1).1, edges_same b b' p r.0 h.1)
+      let h = and_parts ((eqb x x' && eqb g g') && (eqb y y' && same_affine t t')) (same_edges b b') e in
+      let k = and_parts (eqb x x' && eqb g g') (eqb y y' && same_affine t t') h.0 in
+      (affine_same t t' q r.1 (and_parts (eqb y y') (same_affine t t') k.1).1, edges_same b b' p r.0 h.1)
   scene_same x g y (FillPath m b' t' l) r e = absurd (true≢false (sym e))
   scene_same x g y (StrokePath m b' t' s l) r e = absurd (true≢false (sym e))
   scene_same x g y (GlyphRun f z t' l b' i) r e = absurd (true≢false (sym e))
@@ -154,9 +150,9 @@ module _ (b : Rect) (t : Affine) (p : Edges Good b) (q : Entries Good t) (hs : L
   run_same : (f : ℕ) (z : Float) (k : ℕ) (gs : List Glyph) (d : DrawCommand) → DrawFloats Good d → SameInk gs hs → same_run f z t k b d ≡ true → SameAffine t (transform_of d) × SameBox (united b gs) (local_bounds d hs)
   unfolding same_run
   run_same f z k gs (GlyphRun f' z' t' l b' i) r w e =
-      let h = both ((eqb f f' && eq z z') && (same_affine t t' && eqb k l)) (same_edges b b') e in
-      let m = both (eqb f f' && eq z z') (same_affine t t' && eqb k l) h.0 in
-      (affine_same t t' q r.1 (both (same_affine t t') (eqb k l) m.1).0, united_same b b' gs hs (edges_same b b' p r.0 h.1) w)
+      let h = and_parts ((eqb f f' && eq z z') && (same_affine t t' && eqb k l)) (same_edges b b') e in
+      let m = and_parts (eqb f f' && eq z z') (same_affine t t' && eqb k l) h.0 in
+      (affine_same t t' q r.1 (and_parts (same_affine t t') (eqb k l) m.1).0, united_same b b' gs hs (edges_same b b' p r.0 h.1) w)
   run_same f z k gs (FillPath m b' t' l) r w e = absurd (true≢false (sym e))
   run_same f z k gs (StrokePath m b' t' s l) r w e = absurd (true≢false (sym e))
   run_same f z k gs (Scene x g y t' b') r w e = absurd (true≢false (sym e))
@@ -164,8 +160,8 @@ module _ (b : Rect) (t : Affine) (p : Edges Good b) (q : Entries Good t) (hs : L
   alike_same : (f : ℕ) (z : Float) (k : ℕ) (d : DrawCommand) → DrawFloats Good d → run_alike f z t k d ≡ true → SameAffine t (transform_of d)
   unfolding run_alike
   alike_same f z k (GlyphRun f' z' t' l b' i) r e =
-      let h = both (eqb f f' && same_bits z z') (same_affine t t' && eqb k l) e in
-      affine_same t t' q r.1 (both (same_affine t t') (eqb k l) h.1).0
+      let h = and_parts (eqb f f' && same_bits z z') (same_affine t t' && eqb k l) e in
+      affine_same t t' q r.1 (and_parts (same_affine t t') (eqb k l) h.1).0
   alike_same f z k (FillPath m b' t' l) r e = absurd (true≢false (sym e))
   alike_same f z k (StrokePath m b' t' s l) r e = absurd (true≢false (sym e))
   alike_same f z k (Scene x g y t' b') r e = absurd (true≢false (sym e))
@@ -190,8 +186,8 @@ module _ (c d : Command) (p : Floats Good c) (q : Floats Good d) where
   pub equal_bounds : equal c d ≡ true → SameBox (bounds c) (bounds d)
   unfolding equal
   equal_bounds e =
-      let h = both (same_drawing c.draw d.draw && equal_glyphs c.glyphs d.glyphs) (same_clips c.clips d.clips) e in
-      let k = both (same_drawing c.draw d.draw) (equal_glyphs c.glyphs d.glyphs) h.0 in
+      let h = and_parts (same_drawing c.draw d.draw && equal_glyphs c.glyphs d.glyphs) (same_clips c.clips d.clips) e in
+      let k = and_parts (same_drawing c.draw d.draw) (equal_glyphs c.glyphs d.glyphs) h.0 in
       let s = drawing_same c.draw d.draw c.glyphs d.glyphs p.draw q.draw (glyphs_same c.glyphs d.glyphs p.glyphs q.glyphs k.1) k.0 in
       bounds_same c d s.0 (clips_same c.clips d.clips p.clips q.clips h.1) s.1
 
@@ -199,14 +195,14 @@ module _ (c d : Command) (p : Floats Good c) (q : Floats Good d) where
   pub alike_glyphs : runs_alike_clipped c d ≡ true → (g h : Glyph) → SameBox g.bounds h.bounds → SameBox (glyph_bounds c g) (glyph_bounds d h)
   unfolding runs_alike_clipped
   alike_glyphs e g h s =
-      let k = both (runs_alike c.draw d.draw) (same_clips c.clips d.clips) e in
+      let k = and_parts (runs_alike c.draw d.draw) (same_clips c.clips d.clips) e in
       glyph_bounds_same c d (runs_same c.draw d.draw p.draw q.draw k.0) (clips_same c.clips d.clips p.clips q.clips k.1) g h s
 
   -- and under either of two equal commands
   pub equal_glyph_bounds : equal c d ≡ true → (g h : Glyph) → SameBox g.bounds h.bounds → SameBox (glyph_bounds c g) (glyph_bounds d h)
   unfolding equal
   equal_glyph_bounds e g h s =
-      let m = both (same_drawing c.draw d.draw && equal_glyphs c.glyphs d.glyphs) (same_clips c.clips d.clips) e in
-      let k = both (same_drawing c.draw d.draw) (equal_glyphs c.glyphs d.glyphs) m.0 in
+      let m = and_parts (same_drawing c.draw d.draw && equal_glyphs c.glyphs d.glyphs) (same_clips c.clips d.clips) e in
+      let k = and_parts (same_drawing c.draw d.draw) (equal_glyphs c.glyphs d.glyphs) m.0 in
       let a = drawing_same c.draw d.draw c.glyphs d.glyphs p.draw q.draw (glyphs_same c.glyphs d.glyphs p.glyphs q.glyphs k.1) k.0 in
       glyph_bounds_same c d a.0 (clips_same c.clips d.clips p.clips q.clips m.1) g h s

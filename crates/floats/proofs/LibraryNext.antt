@@ -5,6 +5,7 @@ use lib.Dec.{eqb}
 use lib.Ieee.{is_nan, up, down, low, size, prec, hid, top, Float, nan, inf, fin, binary64, neg, fits, of_bits, to_bits}
 use Rattle.std.specs.Float as Library
 use Rattle.ieee.proofs.Rank.{ordered, ordered_of, finite_above}
+use Rattle.ieee.proofs.Values.{neg_neg}
 use Rattle.ieee.proofs.Patterns.{infinity_bits, bits_neg, pattern}
 use Rattle.floats.specs.Next.{next_down}
 use Rattle.floats.proofs.Nexts.{Negative, negative, positive_at, negative_at}
@@ -38,17 +39,9 @@ zero_pattern s e = ap (by_units s) (units_none (down e)) ∙ none s
     none true = refl
     none false = refl
 
-neg_twice : (x : Float) → neg (neg x) ≡ x
-unfolding neg
-neg_twice nan = refl
-neg_twice (inf true) = refl
-neg_twice (inf false) = refl
-neg_twice (fin true m e) = refl
-neg_twice (fin false m e) = refl
-
 -- a pattern with the sign set, negated again
 mirrored : (k : ℕ) → k < 2 ^ 63 → neg (of_bits binary64 (2 ^ 63 + k)) ≡ of_bits binary64 k
-mirrored k h = ap neg (bits_neg k h) ∙ neg_twice (of_bits binary64 k)
+mirrored k h = ap neg (bits_neg k h) ∙ neg_neg (of_bits binary64 k)
 
 pub library_next : (y : Float) → fits binary64 y ≡ true → Library.next_down binary64 y ≡ next_down y
 unfolding neg next_down is_nan to_bits fits

@@ -8,7 +8,8 @@ use Rattle.floats.proofs.Orders.{larger_either, smaller_either, larger_rank, sma
 use Rattle.lists.proofs.Picks.{le_or_lt}
 use Rattle.geometry.specs.declared.Rect.{Rect}
 use Rattle.geometry.specs.Boxes.{intersect, union, positive_area}
-use Rattle.lists.proofs.Bools.{and_true, holds, is_true}
+use Rattle.std.proofs.lemmas.Bool.{and_from}
+use Rattle.lists.proofs.Bools.{holds, is_true}
 
 -- a property of each edge
 pub record Edges (P : Float → Type 0) (b : Rect) : Type 0 where
@@ -57,7 +58,7 @@ module _ (b : Rect) (o : Ordered b) where
 
   pub ranks_area : rank b.x0 < rank b.x1 → rank b.y0 < rank b.y1 → T (positive_area b)
   unfolding positive_area
-  ranks_area h k = holds _ (and_true _ _ (ranks_lt b.x0 b.x1 o.x0 o.x1 h) (ranks_lt b.y0 b.y1 o.y0 o.y1 k))
+  ranks_area h k = holds _ (and_from _ _ (ranks_lt b.x0 b.x1 o.x0 o.x1 h) (ranks_lt b.y0 b.y1 o.y0 o.y1 k))
 
 -- ---- an intersection along one axis: low edges a, b and high edges c, d
 abbrev pub low_of : Float → Float → Float

@@ -9,7 +9,8 @@ use Rattle.geometry.specs.declared.Rect.{Rect}
 use Rattle.geometry.specs.Boxes.{union, positive_area}
 use Rattle.geometry.specs.Pixels.{spans, meets, touches}
 use Rattle.geometry.proofs.Edges.{Ordered, union_edges}
-use Rattle.lists.proofs.Bools.{and_true, holds, is_false, is_true, not_both}
+use Rattle.std.proofs.lemmas.Bool.{and_from}
+use Rattle.lists.proofs.Bools.{holds, is_false, is_true, not_both}
 
 -- one whole number up is a higher rank
 pub whole_step : (n : ℕ) → n < 2 ^ 53 → rank (whole n) < rank (whole (n + 1))
@@ -28,7 +29,7 @@ module _ (low high : Float) (s : T (ordered low)) (t : T (ordered high)) (n : �
 
   pub ranks_spans : rank low < rank (whole (n + 1)) → rank (whole n) < rank high → T (spans low high n)
   unfolding spans
-  ranks_spans h k = holds _ (and_true _ _ (ranks_lt low (whole (n + 1)) s (whole_ordered (n + 1) (omega arith)) h) (ranks_lt (whole n) high (whole_ordered n (omega arith)) t k))
+  ranks_spans h k = holds _ (and_from _ _ (ranks_lt low (whole (n + 1)) s (whole_ordered (n + 1) (omega arith)) h) (ranks_lt (whole n) high (whole_ordered n (omega arith)) t k))
 
 -- ---- in the plane: low edges before the far sides of the pixel, high edges past the near ones
 pub record Overlaps (b : Rect) (p q : ℕ) : Type 0 where

@@ -7,7 +7,7 @@ use Prim.Native.Nat.{ℕ, zero, suc, ◌+◌, ◌-◌, ◌*◌, ◌≤◌, ◌<�
 use native.Mathlib.Omega.{arith}
 use lib.Ieee.{Float, eq}
 use borrow.Author.Tests.{eq-eqb, ne_eqb}
-use Rattle.lists.proofs.Bools.{and_false}
+use Rattle.std.proofs.lemmas.Bool.{and_right}
 use Rattle.lists.proofs.Picks.{pick_true, pick_false}
 use Rattle.little_endian.specs.Same.{SameBytes}
 use Rattle.geometry.specs.declared.Rect.{Rect}
@@ -121,7 +121,7 @@ module _ (s : List ℕ) (a m b n : ℕ) where
       go zero a zero b h = absurd (h refl)
       go zero a (suc n) b h = refl
       go (suc m) a zero b h = refl
-      go (suc m) a (suc n) b h = ap (λ (t : Bool). equal_glyph (glyph_at s a) (glyph_at s b) && t) (go m (a + 45) n (b + 45) (λ e. h (ap suc e))) ∙ and_false (equal_glyph (glyph_at s a) (glyph_at s b)) false refl
+      go (suc m) a (suc n) b h = ap (λ (t : Bool). equal_glyph (glyph_at s a) (glyph_at s b) && t) (go m (a + 45) n (b + 45) (λ e. h (ap suc e))) ∙ and_right (equal_glyph (glyph_at s a) (glyph_at s b)) false refl
 
 -- ---- calls' answers for operands that were read, as tests and boxes of the glyphs in the strip
 module _ (g h : Glyph) {i j : ℕ} (p : i ≡ g.id) (q : j ≡ h.id) where

@@ -293,7 +293,7 @@ above_middle x y s t h r = sym back_x ∙ ap (of_bits binary64) (antisym (to_bit
     antisym : (a b : ℕ) → (a < b → ⊥) → (b < a → ⊥) → a ≡ b
     antisym a b p q = omega arith
 
-neg_neg : (x : Float) → neg (neg x) ≡ x
+pub neg_neg : (x : Float) → neg (neg x) ≡ x
 unfolding neg
 neg_neg nan = refl
 neg_neg (inf true) = refl

@@ -13,7 +13,8 @@ use lib.Ieee.Fits.{and_l, and_r}
 use lib.ListN.{length, get_or}
 use Rattle.lists.specs.Pick.{pick}
 use Rattle.lists.specs.Members.{All, Any, Pairs, In}
-use Rattle.lists.proofs.Bools.{and_true, is_true}
+use Rattle.std.proofs.lemmas.Bool.{and_from}
+use Rattle.lists.proofs.Bools.{is_true}
 use Rattle.lists.proofs.Members.{all_of, any_left, any_right, any_append, pairs_append, pairs_none}
 use Rattle.floats.specs.Whole.{whole}
 use Rattle.geometry.specs.declared.Rect.{Rect}
@@ -126,7 +127,7 @@ module _ (height band p q : ℕ) (B : 0 < band) (H : height ≤ 32768) (Q : q < 
       let y : T (low && high) = and_r x (low && high) m in
       let f = row_upper b.y0 band (row_count height band) q o.y0 B (omega arith) (is_true low (and_l low high y)) in
       let e = final_lower b.y1 band (row_count height band) q o.y1 B (omega arith) (row_below height band q B Q) (is_true high (and_r low high y)) in
-      and_true _ _ (and_true _ _ (is_true (positive_area b) (touches_area b p q t)) (le-leb _ _ f)) (le-leb _ _ e)
+      and_from _ _ (and_from _ _ (is_true (positive_area b) (touches_area b p q t)) (le-leb _ _ f)) (le-leb _ _ e)
 
   pub touch_row : (boxes : List Rect) (i : ℕ) (d : Rect) → i < length boxes → Ordered (get_or boxes i d) → T (touches (get_or boxes i d) p q) → In i (row_list band (row_count height band) boxes (q / band))
   touch_row boxes i d h o t = row_has band (row_count height band) boxes (q / band) i d h (touch_stands (get_or boxes i d) o t)

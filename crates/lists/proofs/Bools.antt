@@ -1,8 +1,8 @@
 -- Laws of tests: as propositions, and joined by `&&`, for code that makes one after the other. Assumes nothing.
-use mathlib.Core.Path.{◌≡◌, refl, sym, ap, ◌∙◌, subst}
+use mathlib.Core.Path.{◌≡◌, refl, sym, ap, subst}
 use mathlib.Core.Bool.{Bool, true, false, ◌&&◌}
-use mathlib.Core.Logic.{◌⊎◌, inl, inr}
 use lib.Dec.{T}
+use Rattle.std.proofs.lemmas.Bool.{and_from, and_right}
 
 -- a test that holds is true, and what is true holds
 pub is_true : (b : Bool) → T b → b ≡ true
@@ -35,31 +35,19 @@ and_on a b e = sym (ap (λ (t : Bool). t && b) e)
 pub and_off : (a b : Bool) → a ≡ false → false ≡ (a && b)
 and_off a b e = sym (ap (λ (t : Bool). t && b) e)
 
-pub and_true : (a b : Bool) → a ≡ true → b ≡ true → (a && b) ≡ true
-and_true a b e f = sym (and_on a b e) ∙ f
-
-pub and_false : (a b : Bool) → b ≡ false → (a && b) ≡ false
-and_false true b e = e
-and_false false b e = refl
-
--- where two do not both hold, one fails
-pub and_either : (a b : Bool) → (a && b) ≡ false → (a ≡ false) ⊎ (b ≡ false)
-and_either true b e = inr e
-and_either false b e = inl refl
-
 -- four in a row, by the first that fails
 module _ (a b c d : Bool) where
   pub four_on : a ≡ true → b ≡ true → c ≡ true → d ≡ (a && b && c && d)
-  four_on e f g = and_on (a && b && c) d (and_true (a && b) c (and_true a b e f) g)
+  four_on e f g = and_on (a && b && c) d (and_from (a && b) c (and_from a b e f) g)
 
   pub off_1 : a ≡ false → (a && b && c && d) ≡ false
   off_1 e = λ i. e i && b && c && d
 
   pub off_2 : b ≡ false → (a && b && c && d) ≡ false
-  off_2 e = λ i. and_false a b e i && c && d
+  off_2 e = λ i. and_right a b e i && c && d
 
   pub off_3 : c ≡ false → (a && b && c && d) ≡ false
-  off_3 e = λ i. and_false (a && b) c e i && d
+  off_3 e = λ i. and_right (a && b) c e i && d
 
   pub off_4 : d ≡ false → (a && b && c && d) ≡ false
-  off_4 e = and_false (a && b && c) d e
+  off_4 e = and_right (a && b && c) d e

@@ -2,25 +2,22 @@
 use Prim.Native.Nat.{ℕ, zero, suc, ◌+◌, ◌*◌, ◌<◌}
 use mathlib.Core.List.{List}
 use mathlib.Core.Path.{◌≡◌, refl, sym, subst}
-use mathlib.Core.Bool.{Bool, true, false, ◌&&◌, false≢true}
+use mathlib.Core.Bool.{Bool, true, false}
 use native.Mathlib.Omega.{arith}
 use lib.Ieee.{binary64, of_bits}
 use lib.Ieee.Scale.{finite}
+use Rattle.std.proofs.lemmas.Bool.{and_parts}
 use Rattle.little_endian.specs.Words.{u64_at}
 use Rattle.strip_format.specs.Finite.{AllFinite}
 use Rattle.operand_checks.specs.Operands.{finite_from}
-
-pub both : (a b : Bool) → (a && b) ≡ true → (a ≡ true) × (b ≡ true)
-both true b e = (refl, e)
-both false b e = absurd (false≢true e)
 
 module _ (s : List ℕ) where
   -- the float at a place of a row that is finite
   pub finite_at : (at n k : ℕ) → finite_from s at n ≡ true → k < n → (p : ℕ) → p ≡ at + 8 * k → finite (of_bits binary64 (u64_at s p)) ≡ true
   unfolding finite_from
   finite_at at zero k e h p q = absurd (omega (arith, h))
-  finite_at at (suc n) zero e h p q = subst (λ (z : ℕ). finite (of_bits binary64 (u64_at s z)) ≡ true) (omega (arith, q)) (both _ _ e).0
-  finite_at at (suc n) (suc k) e h p q = finite_at (at + 8) n k (both (finite (of_bits binary64 (u64_at s at))) (finite_from s (at + 8) n) e).1 (omega (arith, h)) p (omega (arith, q))
+  finite_at at (suc n) zero e h p q = subst (λ (z : ℕ). finite (of_bits binary64 (u64_at s z)) ≡ true) (omega (arith, q)) (and_parts _ _ e).0
+  finite_at at (suc n) (suc k) e h p q = finite_at (at + 8) n k (and_parts (finite (of_bits binary64 (u64_at s at))) (finite_from s (at + 8) n) e).1 (omega (arith, h)) p (omega (arith, q))
 
   -- a row is finite where each of its floats is
   pub from_all : (at n : ℕ) → AllFinite s at n → finite_from s at n ≡ true

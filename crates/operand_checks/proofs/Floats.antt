@@ -10,7 +10,8 @@ use Rattle.refusals.specs.declared.Fault.{Fault}
 use Rattle.lists.specs.Pick.{pick}
 use Rattle.refusals.specs.declared.Fault.TheVariants.{UnknownCode}
 use Rattle.strip_format.specs.Finite.{FourFinite}
-use Rattle.operand_checks.proofs.Finite.{both, finite_at}
+use Rattle.std.proofs.lemmas.Bool.{and_parts}
+use Rattle.operand_checks.proofs.Finite.{finite_at}
 use Rattle.operand_checks.specs.Operands.{finite_from, finite_f32, finite_stroke, finite_run, finite_glyph, codes_fit, floats_pass, operands_at}
 
 err_not_ok : {f : Fault} → ◌≡◌ {A = Result (Unit {0}) Fault} (Err f) (Ok tt) → ⊥
@@ -47,11 +48,11 @@ module _ (s : List ℕ) where
 
     stroke_floats : operands_at s at 4 ≡ Ok tt → finite_from s (at + 9) 10 ≡ true
     unfolding operands_at finite_stroke
-    stroke_floats e = (both (finite_from s (at + 9) 10) _ (codes_pass (codes_fit (get_or s (at + 105) 0) (get_or s (at + 114) 0) (get_or s (at + 115) 0)) (finite_stroke s at) e)).0
+    stroke_floats e = (and_parts (finite_from s (at + 9) 10) _ (codes_pass (codes_fit (get_or s (at + 105) 0) (get_or s (at + 114) 0) (get_or s (at + 115) 0)) (finite_stroke s at) e)).0
 
     run_floats : operands_at s at 5 ≡ Ok tt → (finite_from s (at + 13) 6 ≡ true) × (finite_from s (at + 69) 4 ≡ true)
     unfolding operands_at finite_run
-    run_floats e = both (finite_from s (at + 13) 6) (finite_from s (at + 69) 4) (both (finite_f32 s (at + 9)) (finite_from s (at + 13) 6 && finite_from s (at + 69) 4) (finite_pass (finite_run s at) e)).1
+    run_floats e = and_parts (finite_from s (at + 13) 6) (finite_from s (at + 69) 4) (and_parts (finite_f32 s (at + 9)) (finite_from s (at + 13) 6 && finite_from s (at + 69) 4) (finite_pass (finite_run s at) e)).1
 
     scene_floats : operands_at s at 7 ≡ Ok tt → finite_from s (at + 25) 10 ≡ true
     unfolding operands_at
@@ -64,7 +65,7 @@ module _ (s : List ℕ) where
 
     pub glyph_finite : finite_glyph s at ≡ true → FourFinite s (at + 13)
     unfolding finite_glyph
-    glyph_finite e = four_at (at + 13) 4 0 (at + 13) (both (finite_f32 s (at + 9)) (finite_from s (at + 13) 4) (both (finite_f32 s (at + 5)) (finite_f32 s (at + 9) && finite_from s (at + 13) 4) e).1).1 (omega arith) (omega arith)
+    glyph_finite e = four_at (at + 13) 4 0 (at + 13) (and_parts (finite_f32 s (at + 9)) (finite_from s (at + 13) 4) (and_parts (finite_f32 s (at + 5)) (finite_f32 s (at + 9) && finite_from s (at + 13) 4) e).1).1 (omega arith) (omega arith)
 
     pub glyph_floats : operands_at s at 6 ≡ Ok tt → finite_glyph s at ≡ true
     unfolding operands_at

@@ -8,6 +8,7 @@ use lib.Ieee.{binary32, binary64, of_bits}
 use lib.Ieee.Scale.{finite}
 use lib.ListN.{length, get_or}
 use borrow.Author.Tests.{ne_eqb}
+use Rattle.std.proofs.Math.Bool.{and-true, and_assoc}
 use Rattle.std.specs.Prelude.{Result, Ok}
 use Rattle.refusals.specs.declared.Fault.{Fault}
 use Rattle.lists.proofs.Picks.{pick_same}
@@ -27,16 +28,8 @@ module _ (s : List ℕ) where
   cut_from at zero w p l h q = absurd (omega (arith, h))
   cut_from at (suc n) zero p l h q =
       let e : at ≡ p = omega (arith, q) in
-      ap (λ t. finite (of_bits binary64 (u64_at s at)) && t) (from_past (at + 8) n (omega (arith, l, q))) ∙ and_on (finite (of_bits binary64 (u64_at s at))) ∙ ap (λ (z : ℕ). finite (of_bits binary64 (u64_at s z))) e
-    where
-      and_on : (a : Bool) → (a && true) ≡ a
-      and_on true = refl
-      and_on false = refl
-  cut_from at (suc n) (suc w) p l h q = ap (λ t. finite (of_bits binary64 (u64_at s at)) && t) (cut_from (at + 8) n w p l (omega (arith, h)) (omega (arith, q))) ∙ assoc (finite (of_bits binary64 (u64_at s at))) (finite_from s (at + 8) w) (finite (of_bits binary64 (u64_at s p)))
-    where
-      assoc : (a b c : Bool) → (a && (b && c)) ≡ ((a && b) && c)
-      assoc true b c = refl
-      assoc false b c = refl
+      ap (λ t. finite (of_bits binary64 (u64_at s at)) && t) (from_past (at + 8) n (omega (arith, l, q))) ∙ and-true (finite (of_bits binary64 (u64_at s at))) ∙ ap (λ (z : ℕ). finite (of_bits binary64 (u64_at s z))) e
+  cut_from at (suc n) (suc w) p l h q = ap (λ t. finite (of_bits binary64 (u64_at s at)) && t) (cut_from (at + 8) n w p l (omega (arith, h)) (omega (arith, q))) ∙ sym (and_assoc (finite (of_bits binary64 (u64_at s at))) (finite_from s (at + 8) w) (finite (of_bits binary64 (u64_at s p))))
 
   module _ (at n w : ℕ) (l : length s ≤ at + 8 * w + 8) (h : w < n) {b : Bool} (e : b ≡ finite_from s at w) where
     cut : finite_from s at n ≡ (b && finite (of_bits binary64 (u64_at s (at + 8 * w))))

@@ -6,7 +6,7 @@ use lib.Dec.{T, eqb}
 use lib.Ieee.{Float, nan, inf, fin, binary32, eq, is_nan, fits, to_bits, of_bits, up, down}
 use lib.Ieee.Bits.{of_bits-to_bits}
 use borrow.Author.Tests.{eq-eqb, eqb-true}
-use Rattle.lists.proofs.Bools.{and_true, and_false}
+use Rattle.std.proofs.lemmas.Bool.{and_from, and_right}
 use Rattle.operand_equality.specs.Operands.{same_bits}
 
 -- what is equal to something is no NaN
@@ -43,5 +43,5 @@ unfolding same_bits
 same_bits_lem a b f g t = go (eqb (to_bits binary32 a) (to_bits binary32 b)) refl
   where
     go : (r : Bool) → eqb (to_bits binary32 a) (to_bits binary32 b) ≡ r → (eq a b && r) ≡ r
-    go true e = and_true (eq a b) true (ap (λ (z : Float). eq a z) (sym (bits_size a b f g e)) ∙ eq_self a t) refl
-    go false e = and_false (eq a b) false refl
+    go true e = and_from (eq a b) true (ap (λ (z : Float). eq a z) (sym (bits_size a b f g e)) ∙ eq_self a t) refl
+    go false e = and_right (eq a b) false refl

@@ -7,7 +7,8 @@ use lib.Dec.{T, eqb}
 use lib.Ieee.{Float, nan, inf, fin, eq}
 use lib.Ieee.Scale.{finite}
 use borrow.Author.Tests.{eq-eqb}
-use Rattle.lists.proofs.Bools.{is_true, and_true}
+use Rattle.std.proofs.lemmas.Bool.{and_from}
+use Rattle.lists.proofs.Bools.{is_true}
 use Rattle.ieee.proofs.Rank.{not_nan}
 use Rattle.ieee.proofs.Values.{value_same}
 use Rattle.geometry.specs.declared.Rect.{Rect}
@@ -60,4 +61,4 @@ module _ (g : Glyph) (x : T (finite g.x)) (y : T (finite g.y)) where
 
   pub equal_glyph_self : Edges Number g.bounds → equal_glyph g g ≡ true
   unfolding equal_glyph
-  equal_glyph_self b = and_true _ _ glyph_self (edges_self g.bounds b)
+  equal_glyph_self b = and_from _ _ glyph_self (edges_self g.bounds b)

@@ -13,7 +13,8 @@ use borrow.Author.Tests.{le-leb, lt-ltb}
 use Rattle.lists.specs.Pick.{pick}
 use Rattle.lists.specs.Members.{All, Any, In}
 use Rattle.lists.proofs.Members.{all_map, all_of, any_find, in_all, pairs_with}
-use Rattle.lists.proofs.Bools.{holds, not_both, and_true}
+use Rattle.std.proofs.lemmas.Bool.{and_from}
+use Rattle.lists.proofs.Bools.{holds, not_both}
 use Rattle.device.specs.declared.DeviceRegion.{DeviceRegion}
 use Rattle.device.specs.Region.{has}
 use Rattle.commands.specs.Bounds.{Command, bounds}
@@ -38,9 +39,9 @@ unfolding Any
 test_covers r p q e = ⊎_elim (λ c. c) (λ n. absurd n) (has_covers (Some r) p q [] e)
 
 covers_test : (r : DeviceRegion) (p q : ℕ) → Covers p q r → has (Some r) p q ≡ true
-covers_test r p q c = and_true (leb r.x p && ltb p (r.x + r.width)) (leb r.y q && ltb q (r.y + r.height))
-    (and_true (leb r.x p) (ltb p (r.x + r.width)) (le-leb r.x p c.from_left) (lt-ltb p (r.x + r.width) c.to_right))
-    (and_true (leb r.y q) (ltb q (r.y + r.height)) (le-leb r.y q c.from_top) (lt-ltb q (r.y + r.height) c.to_bottom))
+covers_test r p q c = and_from (leb r.x p && ltb p (r.x + r.width)) (leb r.y q && ltb q (r.y + r.height))
+    (and_from (leb r.x p) (ltb p (r.x + r.width)) (le-leb r.x p c.from_left) (lt-ltb p (r.x + r.width) c.to_right))
+    (and_from (leb r.y q) (ltb q (r.y + r.height)) (le-leb r.y q c.from_top) (lt-ltb q (r.y + r.height) c.to_bottom))
 
 module _ (w h b : ℕ) (P : Planner) (good : P.Strip → Type 0) (L : Plans w h b P good) {C : Type 0} (background : C) {M : Command → Type 0} {paint : Command → Pixel w h → C → C} {mark : Key → Pixel w h → C → C} (absent : Command) (R : Rules w h C M paint mark) where
   abbrev shown : List Command → Pixel w h → C

@@ -5,15 +5,15 @@ use mathlib.Core.Bool.{Bool, true, false, ◌&&◌, true≢false}
 use mathlib.Core.List.{List, [], ◌∷◌}
 use Prim.Native.Nat.{ℕ, ◌+◌, ◌<◌}
 use native.Mathlib.Omega.{arith}
-use lib.Dec.{leb, eqb}
-use lib.ListN.{length, get_or}
+use lib.Dec.{eqb}
+use lib.ListN.{get_or}
 use lib.Ieee.{Float, binary32, to_bits}
-use lib.Ieee.Fits.{and_l, and_r}
-use borrow.Author.Tests.{ne_eqb}
+use borrow.Author.Tests.{eq-eqb, ne_eqb}
 use Rattle.std.specs.Prelude.{Some}
+use Rattle.std.proofs.lemmas.Bool.{and_parts, and_from}
 use Rattle.lists.specs.Pick.{pick}
-use Rattle.lists.proofs.Bools.{is_true, holds, and_off, and_true}
-use Rattle.lists.proofs.Picks.{pick_false, pick_cases}
+use Rattle.lists.proofs.Bools.{and_off}
+use Rattle.lists.proofs.Picks.{pick_false}
 use Rattle.little_endian.specs.Words.{u16_at, u64_at, f32_at}
 use Rattle.little_endian.specs.Same.{SameBytes}
 use Rattle.geometry.specs.declared.Rect.{Rect}
@@ -28,7 +28,8 @@ use Rattle.operand_equality.proofs.Selves.{number_self, float_self, affine_self}
 use Rattle.equality.specs.Drawings.{same_drawing, equal, fills_alike, runs_alike, run_alike, runs_alike_clipped}
 use Rattle.clips.specs.Chains.{chain}
 use Rattle.display_list.specs.Lists.{offset_at, clip_number_at, box_at}
-use Rattle.strip_format.specs.Format.{length_of, affine_at, run_at, command_at}
+use Rattle.strip_format.specs.Format.{affine_at, run_at, command_at}
+use Rattle.strip_format.proofs.Commands.{command_cases}
 use Rattle.strip_format.proofs.Lengths.{length_run, length_unknown}
 use Rattle.strip_format.proofs.Numbers.{single_finite, entry_numbers}
 use Rattle.strip_laws.proofs.Alike.{command_twice}
@@ -57,15 +58,8 @@ module _ (s : List ℕ) (p q : ℕ) where
       go false false e = (refl, refl)
 
 runs_off : (s : List ℕ) (p : ℕ) (d : DrawCommand) → eqb (get_or s p 0) 5 ≡ false → runs_alike (command_at s p) d ≡ false
-unfolding command_at runs_alike
-runs_off s p d off =
-    let P : DrawCommand → Type 0 = λ (c : DrawCommand). runs_alike c d ≡ false in
-    pick_cases P (leb (p + length_of (get_or s p 0)) (length s)) _ _
-    (λ e. pick_cases P (eqb (get_or s p 0) 3) _ _ (λ e. refl)
-    λ e. pick_cases P (eqb (get_or s p 0) 4) _ _ (λ e. refl)
-    λ e. pick_cases P (eqb (get_or s p 0) 5) _ _ (λ e. absurd (true≢false (sym e ∙ off)))
-    λ e. pick_cases P (eqb (get_or s p 0) 7) _ _ (λ e. refl) (λ e. refl))
-    (λ e. refl)
+unfolding runs_alike
+runs_off s p d off = command_cases s p (λ c. runs_alike c d ≡ false) refl refl (λ e. absurd (true≢false (sym (eq-eqb _ 5 e) ∙ off))) refl refl
 
 fills_off : (c d : DrawCommand) → same_drawing c d ≡ false → fills_alike c d ≡ false
 unfolding same_drawing fills_alike
@@ -120,10 +114,8 @@ none_changed f g [] [] e = refl
 none_changed f g [] (y ∷ ys) e = absurd (true≢false (sym e))
 none_changed f g (x ∷ xs) [] e = absurd (true≢false (sym e))
 none_changed f g (x ∷ xs) (y ∷ ys) e =
-    let one = equal_glyph x y in
-    let h = holds (one && equal_glyphs xs ys) e in
-    let u = is_true (same_glyph x y) (and_l (same_glyph x y) _ (and_l one _ h)) in
-    rw (u, none_changed f g xs ys (is_true (equal_glyphs xs ys) (and_r one _ h)))
+    let h = and_parts (equal_glyph x y) (equal_glyphs xs ys) e in
+    rw ((and_parts (same_glyph x y) _ h.0).0, none_changed f g xs ys h.1)
 
 module _ (s : List ℕ) (bs : List Float) (ns : List ℕ) (a b : PlacedCommand) (w : Pair s bs ns a b) (x : Alike a.command b.command) (k : same_clips (chain bs ns a.run.clip) (chain bs ns b.run.clip) ≡ true) where
   abbrev c : Command
@@ -136,15 +128,14 @@ module _ (s : List ℕ) (bs : List Float) (ns : List ℕ) (a b : PlacedCommand) 
   unfolding equal
   glyphs_equal e =
       let t = same_drawing c.draw d.draw in
-      let u = t && equal_glyphs c.glyphs d.glyphs in
-      is_true (equal_glyphs c.glyphs d.glyphs) (and_r t _ (and_l u _ (holds (u && same_clips c.clips d.clips) e)))
+      (and_parts t _ (and_parts (t && equal_glyphs c.glyphs d.glyphs) (same_clips c.clips d.clips) e).0).1
 
   case_glyphs : changed_by (windowed bs a.run) (windowed bs b.run) c.glyphs d.glyphs ≡ changed_bounds c d
   case_glyphs = go (equal c d) refl
     where
       go : (t : Bool) → equal c d ≡ t → changed_by (windowed bs a.run) (windowed bs b.run) c.glyphs d.glyphs ≡ changed_bounds c d
       go true e = none_changed _ _ c.glyphs d.glyphs (glyphs_equal e) ∙ case_equal s bs ns a b w (sym e) refl
-      go false e = case_runs s bs ns a b w (sym e) refl (sym x.0) refl (sym (and_true _ _ x.1 k)) refl
+      go false e = case_runs s bs ns a b w (sym e) refl (sym x.0) refl (sym (and_from _ _ x.1 k)) refl
 
 -- ---- at two places of a list: what changed in its glyphs
 module _ (i j : ℕ) (s : List ℕ) (bs : List Float) (ns is : List ℕ) (ibs : List Float) (w : Both i j s bs ns is ibs) where

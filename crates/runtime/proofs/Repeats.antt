@@ -4,12 +4,11 @@ use mathlib.Core.Bool.{true, ◌&&◌}
 use mathlib.Core.List.{List, [], ◌++◌}
 use Prim.Native.Nat.{ℕ, zero, suc, ◌+◌, ◌*◌, ◌≤◌, ◌<◌}
 use native.Mathlib.Omega.{arith}
-use lib.Dec.{leb, eqb}
+use lib.Dec.{eqb}
 use lib.ListN.{length, get_or}
 use lib.Ieee.{Float}
-use lib.Ieee.Fits.{and_r}
 use borrow.Author.Tests.{eqb-true}
-use Rattle.lists.proofs.Bools.{and_true, is_true, holds}
+use Rattle.std.proofs.lemmas.Bool.{and_parts, and_from}
 use Rattle.lists.proofs.Picks.{pick_true, pick_cases}
 use Rattle.little_endian.specs.Words.{u16_at}
 use Rattle.little_endian.specs.Same.{SameBytes}
@@ -23,6 +22,7 @@ use Rattle.equality.proofs.Selves.{SizeFinite, drawing_self}
 use Rattle.clips.specs.Chains.{Rooted}
 use Rattle.clips.proofs.Chaining.{chain_none}
 use Rattle.strip_format.specs.Format.{length_of, command_at, glyph_at, glyphs_from}
+use Rattle.strip_format.proofs.Commands.{command_cases}
 use Rattle.strip_format.proofs.Alike.{glyphs_twice}
 use Rattle.strip_format.proofs.Lengths.{length_pos, length_run}
 use Rattle.strip_format.proofs.Numbers.{single_finite, rect_numbers}
@@ -51,14 +51,9 @@ module _ (s : List ℕ) (at : ℕ) where
   Shorter d = 0 < glyph_count d → 103 + 45 * glyph_count d ≤ whole_length s at
 
   holds_glyphs : Shorter (command_at s at)
-  unfolding command_at
   holds_glyphs =
-      pick_cases Shorter (leb (at + length_of (get_or s at 0)) (length s)) _ _
-      (λ e. pick_cases Shorter (eqb (get_or s at 0) 3) _ _ (λ e h. absurd (omega arith))
-      λ e. pick_cases Shorter (eqb (get_or s at 0) 4) _ _ (λ e h. absurd (omega arith))
-      λ e. pick_cases Shorter (eqb (get_or s at 0) 5) _ _ (λ e h. omega (arith, whole_run (eqb-true (get_or s at 0) 5 e)))
-      λ e. pick_cases Shorter (eqb (get_or s at 0) 7) _ _ (λ e h. absurd (omega arith)) (λ e h. absurd (omega arith)))
-      (λ e h. absurd (omega arith))
+      let none : 0 < 0 → 103 + 45 * 0 ≤ whole_length s at = λ h. absurd (omega arith) in
+      command_cases s at Shorter none none (λ e h. omega (arith, whole_run e)) none none
 
 -- ---- the same bytes
 pub same_command : (s : List ℕ) (p q n : ℕ) → n ≡ whole_length s p → p + n ≤ length s → q + n ≤ length s → SameBytes s p q n → command_of s p [] ≡ command_of s q []
@@ -74,19 +69,12 @@ same_command s p q n e h k w =
 -- ---- a command that is decoded is equal to itself
 module _ (s : List ℕ) where
   size_finite : (at : ℕ) → SizeFinite (command_at s at)
-  unfolding command_at
-  size_finite at =
-      pick_cases SizeFinite (leb (at + length_of (get_or s at 0)) (length s)) _ _
-      (λ e. pick_cases SizeFinite (eqb (get_or s at 0) 3) _ _ (λ e. tt)
-      λ e. pick_cases SizeFinite (eqb (get_or s at 0) 4) _ _ (λ e. tt)
-      λ e. pick_cases SizeFinite (eqb (get_or s at 0) 5) _ _ (λ e. single_finite s (at + 9))
-      λ e. pick_cases SizeFinite (eqb (get_or s at 0) 7) _ _ (λ e. tt) (λ e. tt))
-      (λ e. tt)
+  size_finite at = command_cases s at SizeFinite tt tt (λ e. single_finite s (at + 9)) tt tt
 
   glyphs_self : (n at : ℕ) → equal_glyphs (glyphs_from s at n) (glyphs_from s at n) ≡ true
   unfolding glyphs_from equal_glyphs
   glyphs_self zero at = refl
-  glyphs_self (suc n) at = and_true _ _ (equal_glyph_self (glyph_at s at) (single_finite s (at + 5)) (single_finite s (at + 9)) (rect_numbers s (at + 13))) (glyphs_self n (at + 45))
+  glyphs_self (suc n) at = and_from _ _ (equal_glyph_self (glyph_at s at) (single_finite s (at + 5)) (single_finite s (at + 9)) (rect_numbers s (at + 13))) (glyphs_self n (at + 45))
 
   pub same_equal : (p q : ℕ) (l m : List Rect) → command_of s p [] ≡ command_of s q [] → same_clips l m ≡ true → equal (command_of s p l) (command_of s q m) ≡ true
   unfolding equal
@@ -94,7 +82,7 @@ module _ (s : List ℕ) where
       let c = command_of s p [] in
       let d : same_drawing c.draw (command_at s q) ≡ true = ap (λ (x : Command). same_drawing c.draw x.draw) (sym e) ∙ drawing_self (command_at s p) (draw_numbers s p) (size_finite p) in
       let g : equal_glyphs c.glyphs (command_of s q []).glyphs ≡ true = ap (λ (x : Command). equal_glyphs c.glyphs x.glyphs) (sym e) ∙ glyphs_self (glyph_count (command_at s p)) (p + 103) in
-      and_true _ _ (and_true _ _ d g) f
+      and_from _ _ (and_from _ _ d g) f
 
 -- ---- what equal commands tell
 equal_none : (c d : Command) (l : List Rect) → equal c d ≡ true → changed_bounds c d ++ l ≡ l
@@ -105,7 +93,7 @@ equal_clips : (c d : Command) → equal c d ≡ true → same_clips c.clips d.cl
 unfolding equal
 equal_clips c d e =
     let t = same_drawing c.draw d.draw && equal_glyphs c.glyphs d.glyphs in
-    is_true (same_clips c.clips d.clips) (and_r t (same_clips c.clips d.clips) (holds (t && same_clips c.clips d.clips) e))
+    (and_parts t (same_clips c.clips d.clips) e).1
 
 module _ (s : List ℕ) (bs : List Float) (ns is : List ℕ) where
   pub changed_same : (old new k : ℕ) → k < old → k < new → equal (command_in s bs ns is k) (command_in s bs ns is (old + k)) ≡ true → changed_from s bs ns is old new k ≡ changed_from s bs ns is old new (k + 1)

@@ -1,21 +1,18 @@
 -- What sizes are that fit. Assumes nothing.
-use Rattle.std.proofs.Common.{◌≡◌, ℕ, ◌<◌, ◌≤◌, Bool, true, false, ◌&&◌, eqb, leb, refl, ap, arith, leb-true}
-use lib.Ieee.Fits.{and_l, and_r}
+use Rattle.std.proofs.Common.{◌≡◌, ℕ, ◌<◌, ◌≤◌, Bool, true, false, ◌&&◌, eqb, leb, refl, arith, leb-true}
 use borrow.Author.Tests.{eqb-false}
+use mathlib.Core.Bool.{false≢true}
 use Rattle.lists.specs.Pick.{pick}
-use Rattle.lists.proofs.Bools.{holds, is_true}
+use Rattle.std.proofs.lemmas.Bool.{and_parts}
 use Rattle.screen.specs.declared.Screen.{Screen}
 use Rattle.screen.specs.Sizes.{size_fits, fits}
-
-untrue : {P : Type 0} → false ≡ true → P
-untrue e = let z : ◌≡◌ {A = ℕ} 0 1 = ap (λ (b : Bool). pick b 1 0) e in absurd (omega arith)
 
 pub size_of : (n : ℕ) → size_fits n ≡ true → (0 < n) × (n ≤ 32768)
 unfolding size_fits
 size_of n e = go (eqb n 0) refl e
   where
     go : (t : Bool) → eqb n 0 ≡ t → pick t false (leb n 32768) ≡ true → (0 < n) × (n ≤ 32768)
-    go true q e = untrue e
+    go true q e = absurd (false≢true e)
     go false q e = let z = eqb-false n 0 q in (omega (arith, z), leb-true n 32768 e)
 
 -- a screen whose sizes are from 1 to 32,768
@@ -29,9 +26,9 @@ pub record Fits (s : Screen) : Type 0 where
 
 pub sizes_of : (s : Screen) → fits s ≡ true → Fits s
 sizes_of s e =
-    let t = holds _ e in
-    let u = and_r (size_fits s.width) (size_fits s.height && size_fits s.band_height) t in
-    let a = size_of s.width (is_true _ (and_l (size_fits s.width) (size_fits s.height && size_fits s.band_height) t)) in
-    let b = size_of s.height (is_true _ (and_l (size_fits s.height) (size_fits s.band_height) u)) in
-    let c = size_of s.band_height (is_true _ (and_r (size_fits s.height) (size_fits s.band_height) u)) in
+    let t = and_parts (size_fits s.width) (size_fits s.height && size_fits s.band_height) e in
+    let u = and_parts (size_fits s.height) (size_fits s.band_height) t.1 in
+    let a = size_of s.width t.0 in
+    let b = size_of s.height u.0 in
+    let c = size_of s.band_height u.1 in
     record { some_width = a.0; width_most = a.1; some_height = b.0; height_most = b.1; some_band = c.0; band_most = c.1 }

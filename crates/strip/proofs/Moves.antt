@@ -139,13 +139,6 @@ module _ (s : List ℕ) (at : ℕ) (st : Cursor) (r : Result Step Refusal) (rest
   on_draw : (t : Cursor) (from : ℕ) (box : Rect) → r ≡ Ok (Draw t from box) → (length s - t.at < length s - st.at) × Rest s at t
   on_draw t from box q = advance t (moved (Ok (Draw t from box)) q) (λ k. ap (λ x. on_step x k) q)
 
-  -- each of the four
-  pub on_moved : (t : Cursor) (step : Step) → r ≡ Ok step → (step ≡ Next t) ⊎ (((box : Rect) × (step ≡ Clip t box)) ⊎ ((step ≡ Pop t) ⊎ ((from : ℕ) × (box : Rect) × (step ≡ Draw t from box)))) → (length s - t.at < length s - st.at) × Rest s at t
-  on_moved t step q (inl e) = on_next_lem t (q ∙ ap Ok e)
-  on_moved t step q (inr (inl (box, e))) = on_clip t box (q ∙ ap Ok e)
-  on_moved t step q (inr (inr (inl e))) = on_pop t (q ∙ ap Ok e)
-  on_moved t step q (inr (inr (inr (from, box, e)))) = on_draw t from box (q ∙ ap Ok e)
-
   pub on_end : (t : Cursor) → r ≡ Ok (End t) → Ok t ≡ read_strip s at
   unfolding read_from
   on_end t q = go rest
@@ -161,3 +154,10 @@ module _ (s : List ℕ) (at : ℕ) (st : Cursor) (r : Result Step Refusal) (rest
       go : Rest s at st → Err f ≡ read_strip s at
       go (zero, b, c) = absurd (omega arith)
       go (suc k, b, c) = sym (ap (λ x. on_step x (read_from k s)) (sym p ∙ q)) ∙ c
+
+-- each of the four
+pub on_moved : (s : List ℕ) (at : ℕ) (st : Cursor) {step : Step} {t : Cursor} → Rest s at st → Ok step ≡ step_at s st → (step ≡ Next t) ⊎ (((box : Rect) × (step ≡ Clip t box)) ⊎ ((step ≡ Pop t) ⊎ ((from : ℕ) × (box : Rect) × (step ≡ Draw t from box)))) → (length s - t.at < length s - st.at) × Rest s at t
+on_moved s at st w p (inl e) = on_next_lem s at st _ w p _ (ap Ok e)
+on_moved s at st w p (inr (inl (box, e))) = on_clip s at st _ w p _ box (ap Ok e)
+on_moved s at st w p (inr (inr (inl e))) = on_pop s at st _ w p _ (ap Ok e)
+on_moved s at st w p (inr (inr (inr (from, box, e)))) = on_draw s at st _ w p _ from box (ap Ok e)

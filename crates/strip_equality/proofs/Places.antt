@@ -6,7 +6,7 @@ use Prim.Native.Nat.{ℕ, zero, suc, ◌+◌, ◌-◌, ◌*◌, ◌<◌, ◌≤�
 use native.Mathlib.Omega.{arith}
 use lib.Ieee.{binary64, eq}
 use lib.ListN.{get_or}
-use Rattle.lists.proofs.Bools.{and_true}
+use Rattle.std.proofs.lemmas.Bool.{and_from}
 use Rattle.little_endian.specs.Words.{u64_at, finite_or, f64_at}
 use Rattle.little_endian.specs.Same.{SameBytes}
 use Rattle.little_endian.proofs.Alike.{f64_same}
@@ -44,7 +44,7 @@ pub floats_twice : (s : List ℕ) (p q n : ℕ) → SameBytes s p q (8 * n) → 
 unfolding same_floats
 floats_twice s p q zero w = refl
 floats_twice s p q (suc n) w =
-    sym (and_true _ _ (first_twice s p q (8 * suc n) w (omega arith)) (sym (floats_twice s (p + 8) (q + 8) n (rest_twice s p q (8 * suc n) (8 * n) w (omega arith)))))
+    sym (and_from _ _ (first_twice s p q (8 * suc n) w (omega arith)) (sym (floats_twice s (p + 8) (q + 8) n (rest_twice s p q (8 * suc n) (8 * n) w (omega arith)))))
 
 -- ---- a row from its front
 floats_none : (s : List ℕ) (p q n : ℕ) → n ≤ 0 → same_floats s p q n ≡ true

@@ -5,9 +5,9 @@ use Prim.Native.Nat.{ℕ, ◌+◌, ◌≤◌, ◌<◌}
 use native.Mathlib.Omega.{arith}
 use lib.Dec.{leb, eqb}
 use lib.ListN.{length, get_or}
-use borrow.Author.Tests.{le-leb, lt-leb, ne_eqb}
+use borrow.Author.Tests.{le-leb, lt-leb, ne_eqb, eqb-true}
 use Rattle.lists.specs.Pick.{pick}
-use Rattle.lists.proofs.Picks.{pick_true, pick_false, pick_same}
+use Rattle.lists.proofs.Picks.{pick_true, pick_false, pick_same, pick_cases}
 use Rattle.commands.specs.declared.DrawCommand.{DrawCommand}
 use Rattle.strip_format.specs.Format.{length_of, fill_at, stroke_path_at, run_at, scene_at, blank, command_at}
 use Rattle.strip_format.proofs.Lengths.{length_pos}
@@ -58,3 +58,15 @@ module _ (s : List ℕ) (at : ℕ) where
       ∙ pick_false (eqb b 5) (run_at s at) (pick (eqb b 7) (scene_at s at) blank) (ne_eqb b 5 n5)
       ∙ pick_false (eqb b 7) (scene_at s at) blank (ne_eqb b 7 n7) in
       sym (ap (λ (c : DrawCommand). pick (leb (at + length_of b) (length s)) c blank) f ∙ pick_same (leb (at + length_of b) (length s)) blank)
+
+  -- what holds of each kind of command, read there, and of the blank one holds of what stands there
+  pub command_cases : (P : DrawCommand → Type 0) → P (fill_at s at) → P (stroke_path_at s at) → (get_or s at 0 ≡ 5 → P (run_at s at)) → P (scene_at s at) → P blank → P (command_at s at)
+  unfolding command_at
+  command_cases P fill stroke run scene none =
+      let b = get_or s at 0 in
+      pick_cases P (leb (at + length_of b) (length s)) _ _
+      (λ e. pick_cases P (eqb b 3) _ _ (λ e. fill)
+      λ e. pick_cases P (eqb b 4) _ _ (λ e. stroke)
+      λ e. pick_cases P (eqb b 5) _ _ (λ e. run (eqb-true b 5 e))
+      λ e. pick_cases P (eqb b 7) _ _ (λ e. scene) (λ e. none))
+      (λ e. none)

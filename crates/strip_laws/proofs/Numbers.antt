@@ -1,12 +1,10 @@
 -- Every float that is decoded is finite, so every command that is read is made of finite floats, and so is every open clip. Assumes nothing.
 use mathlib.Core.List.{List, [], ◌∷◌}
 use Prim.Native.Nat.{ℕ, zero, suc, ◌+◌, ◌-◌}
-use lib.Dec.{leb, eqb}
-use lib.ListN.{length, get_or}
+use lib.ListN.{length}
 use Rattle.std.specs.Prelude.{Result, Ok, Err}
 use Rattle.refusals.specs.declared.Refusal.{Refusal}
 use Rattle.lists.specs.Members.{All}
-use Rattle.lists.proofs.Picks.{pick_cases}
 use Rattle.lists.proofs.Members.{all_append, all_take}
 use Rattle.geometry.specs.declared.Rect.{Rect}
 use Rattle.geometry.proofs.Edges.{Edges}
@@ -14,7 +12,8 @@ use Rattle.commands.specs.declared.DrawCommand.{DrawCommand}
 use Rattle.commands.specs.Bounds.{Command, glyph_count}
 use Rattle.commands.proofs.Finite.{Number}
 use Rattle.commands.proofs.Values.{DrawFloats, Floats}
-use Rattle.strip_format.specs.Format.{length_of, blank, command_at, glyphs_from}
+use Rattle.strip_format.specs.Format.{blank, command_at, glyphs_from}
+use Rattle.strip_format.proofs.Commands.{command_cases}
 use Rattle.strip_format.proofs.Numbers.{zero_number, number_at, rect_numbers, entry_numbers}
 use Rattle.strip.specs.declared.Cursor.{Cursor}
 use Rattle.strip.specs.declared.Step.{Step}
@@ -33,14 +32,13 @@ none =
     (record { x0 = z; y0 = z; x1 = z; y1 = z }, record { a = z; b = z; c = z; d = z; e = z; f = z })
 
 pub draw_numbers : (s : List ℕ) (at : ℕ) → DrawFloats Number (command_at s at)
-unfolding command_at
 draw_numbers s at =
-    pick_cases D (leb (at + length_of (get_or s at 0)) (length s)) _ _
-    (λ e. pick_cases D (eqb (get_or s at 0) 3) _ _ (λ e. (rect_numbers s (at + 9), entry_numbers s (at + 41)))
-    λ e. pick_cases D (eqb (get_or s at 0) 4) _ _ (λ e. (rect_numbers s (at + 9), entry_numbers s (at + 41), number_at s (at + 97), number_at s (at + 97 + 9)))
-    λ e. pick_cases D (eqb (get_or s at 0) 5) _ _ (λ e. (rect_numbers s (at + 69), entry_numbers s (at + 13)))
-    λ e. pick_cases D (eqb (get_or s at 0) 7) _ _ (λ e. (rect_numbers s (at + 73), entry_numbers s (at + 25))) (λ e. none))
-    (λ e. none)
+    command_cases s at D
+    (rect_numbers s (at + 9), entry_numbers s (at + 41))
+    (rect_numbers s (at + 9), entry_numbers s (at + 41), number_at s (at + 97), number_at s (at + 97 + 9))
+    (λ e. (rect_numbers s (at + 69), entry_numbers s (at + 13)))
+    (rect_numbers s (at + 73), entry_numbers s (at + 25))
+    none
 
 glyph_numbers : (s : List ℕ) (at n : ℕ) → All (λ g. Edges Number g.bounds) (glyphs_from s at n)
 unfolding glyphs_from All

@@ -1,18 +1,17 @@
 -- Run sizes and the places of glyphs, which no box is made of, are finite f32s in every command that is read. Assumes nothing.
 use mathlib.Core.List.{List, [], ◌∷◌}
 use Prim.Native.Nat.{ℕ, zero, suc, ◌+◌}
-use lib.Dec.{leb, eqb}
-use lib.ListN.{length, get_or}
+use lib.ListN.{length}
 use Rattle.std.specs.Prelude.{Result, Ok, Err}
 use Rattle.refusals.specs.declared.Refusal.{Refusal}
 use Rattle.lists.specs.Members.{All}
 use Rattle.lists.proofs.Members.{all_none, all_append}
-use Rattle.lists.proofs.Picks.{pick_cases}
 use Rattle.geometry.specs.declared.Rect.{Rect}
 use Rattle.commands.specs.declared.DrawCommand.{DrawCommand}
 use Rattle.commands.specs.Bounds.{Command, glyph_count}
 use Rattle.commands.specs.Sizes.{size_of}
-use Rattle.strip_format.specs.Format.{length_of, command_at, glyphs_from}
+use Rattle.strip_format.specs.Format.{command_at, glyphs_from}
+use Rattle.strip_format.proofs.Commands.{command_cases}
 use Rattle.strip_format.proofs.Numbers.{Single, single_zero, single_at}
 use Rattle.strip.specs.declared.Step.{Step}
 use Rattle.strip.specs.declared.Step.TheVariants.{Next, Clip, Pop, Draw, End}
@@ -26,14 +25,7 @@ abbrev D : DrawCommand → Type 0
 D d = Single (size_of d)
 
 pub size_single : (s : List ℕ) (at : ℕ) → Single (size_of (command_at s at))
-unfolding command_at
-size_single s at =
-    pick_cases D (leb (at + length_of (get_or s at 0)) (length s)) _ _
-    (λ e. pick_cases D (eqb (get_or s at 0) 3) _ _ (λ e. single_zero)
-    λ e. pick_cases D (eqb (get_or s at 0) 4) _ _ (λ e. single_zero)
-    λ e. pick_cases D (eqb (get_or s at 0) 5) _ _ (λ e. single_at s (at + 9))
-    λ e. pick_cases D (eqb (get_or s at 0) 7) _ _ (λ e. single_zero) (λ e. single_zero))
-    (λ e. single_zero)
+size_single s at = command_cases s at D single_zero single_zero (λ e. single_at s (at + 9)) single_zero single_zero
 
 place_singles : (s : List ℕ) (at n : ℕ) → All (λ g. Single g.x × Single g.y) (glyphs_from s at n)
 unfolding glyphs_from All

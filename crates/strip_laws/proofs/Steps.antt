@@ -18,6 +18,7 @@ use Rattle.affine.specs.Affines.{try_transform}
 use Rattle.commands.specs.declared.DrawCommand.{DrawCommand}
 use Rattle.commands.specs.Bounds.{transform_of, glyph_count, try_with}
 use Rattle.strip_format.specs.Format.{length_of, rect_at, command_at}
+use Rattle.strip_format.proofs.Commands.{command_cases}
 use Rattle.strip_format.proofs.Lengths.{length_run, length_glyph}
 use Rattle.operand_checks.specs.Operands.{operands_at}
 use Rattle.strip.specs.declared.Cursor.{Cursor}
@@ -51,14 +52,7 @@ unfolding command_at
 run_count s at is h = rw (is, length_run, le-leb (at + 103) (length s) h)
 
 pub no_count : (s : List ℕ) (at : ℕ) → (get_or s at 0 ≡ 5 → ⊥) → glyph_count (command_at s at) ≡ 0
-unfolding command_at
-no_count s at other =
-    pick_cases Z (leb (at + length_of (get_or s at 0)) (length s)) _ _
-    (λ e. pick_cases Z (eqb (get_or s at 0) 3) _ _ (λ e. refl)
-    λ e. pick_cases Z (eqb (get_or s at 0) 4) _ _ (λ e. refl)
-    λ e. pick_cases Z (eqb (get_or s at 0) 5) _ _ (λ e. absurd (other (eqb-true (get_or s at 0) 5 e)))
-    λ e. pick_cases Z (eqb (get_or s at 0) 7) _ _ (λ e. refl) (λ e. refl))
-    (λ e. refl)
+no_count s at other = command_cases s at Z refl refl (λ e. absurd (other e)) refl refl
 
 -- no glyph is due where another command may stand
 due_none : (b k due : ℕ) → b ≡ k → eqb k 6 ≡ false → due_fits b due ≡ true → due ≡ 0

@@ -1,4 +1,4 @@
-use Rattle.clips.proofs.Walks.{left_start, left_x, left_y, left_stop, left_next, edges_via}
+use Rattle.clips.proofs.Walks.{left_start, left_x, left_y, left_stop, left_next}
 use mathlib.Core.Path.{◌∙◌}
 use borrow.Author.Tests.{ne_eqb}
 use Rattle.clips.proofs.same_clips.Goals as goal
@@ -8,13 +8,13 @@ pub loop-x-init : goal.loop-x-init
 loop-x-init c = left_start _ _ _ _ c.requires
 
 pub loop-x-smaller : goal.loop-x-smaller
-loop-x-smaller c = (left_next _ _ _ _ _ _ c.loop-x.invariant c.loop-x-test.true c.if-y-ne0.true (edges_via c.same_edges.ensures c.rect_at-clip.ensures c.rect_at-other_clip.ensures c.if-not-same_edges.false)).0
+loop-x-smaller c = (left_next _ _ _ _ _ _ c.loop-x.invariant c.loop-x-test.true c.if-y-ne0.true c.same_edges.ensures c.rect_at-clip.ensures c.rect_at-other_clip.ensures c.if-not-same_edges.false).0
 
 pub loop-x-preserved : goal.loop-x-preserved
-loop-x-preserved c = (left_next _ _ _ _ _ _ c.loop-x.invariant c.loop-x-test.true c.if-y-ne0.true (edges_via c.same_edges.ensures c.rect_at-clip.ensures c.rect_at-other_clip.ensures c.if-not-same_edges.false)).1
+loop-x-preserved c = (left_next _ _ _ _ _ _ c.loop-x.invariant c.loop-x-test.true c.if-y-ne0.true c.same_edges.ensures c.rect_at-clip.ensures c.rect_at-other_clip.ensures c.if-not-same_edges.false).1
 
 pub returns-then-not-same_edges : goal.returns-then-not-same_edges
-returns-then-not-same_edges c = left_stop _ _ _ _ _ _ c.loop-x.invariant c.loop-x-test.true c.if-y-ne0.true (edges_via c.same_edges.ensures c.rect_at-clip.ensures c.rect_at-other_clip.ensures c.if-not-same_edges.true)
+returns-then-not-same_edges c = left_stop _ _ _ _ _ _ c.loop-x.invariant c.loop-x-test.true c.if-y-ne0.true c.same_edges.ensures c.rect_at-clip.ensures c.rect_at-other_clip.ensures c.if-not-same_edges.true
 
 pub returns-then-x-eq0 : goal.returns-then-x-eq0
 returns-then-x-eq0 c = left_x _ _ _ _ _ _ c.loop-x.invariant c.if-x-eq0.true

@@ -9,28 +9,28 @@ pub loop-t-init : goal.loop-t-init
 loop-t-init c = rest_start _ _ _ c.start-st.ensures
 
 pub loop-t-smaller : goal.loop-t-smaller
-loop-t-smaller c = (on_moved _ _ _ _ c.loop-t.invariant c.in_ok-t.ensures _ _ refl c.in-Next.is).0
+loop-t-smaller c = (on_moved _ _ _ c.loop-t.invariant c.in_ok-t.ensures c.in-Next.is).0
 
 pub loop-t-preserved : goal.loop-t-preserved
-loop-t-preserved c = (on_moved _ _ _ _ c.loop-t.invariant c.in_ok-t.ensures _ _ refl c.in-Next.is).1
+loop-t-preserved c = (on_moved _ _ _ c.loop-t.invariant c.in_ok-t.ensures c.in-Next.is).1
 
 pub loop-t-smaller-in-Next : goal.loop-t-smaller-in-Next
-loop-t-smaller-in-Next c = (on_moved _ _ _ _ c.loop-t.invariant c.in_ok-t.ensures _ _ refl c.in-Next.is).0
+loop-t-smaller-in-Next c = (on_moved _ _ _ c.loop-t.invariant c.in_ok-t.ensures c.in-Next.is).0
 
 pub loop-t-preserved-in-Next : goal.loop-t-preserved-in-Next
-loop-t-preserved-in-Next c = (on_moved _ _ _ _ c.loop-t.invariant c.in_ok-t.ensures _ _ refl c.in-Next.is).1
+loop-t-preserved-in-Next c = (on_moved _ _ _ c.loop-t.invariant c.in_ok-t.ensures c.in-Next.is).1
 
 pub loop-t-smaller-in-Next-2 : goal.loop-t-smaller-in-Next-2
-loop-t-smaller-in-Next-2 c = (on_moved _ _ _ _ c.loop-t.invariant c.in_ok-t.ensures _ _ refl c.in-Next.is).0
+loop-t-smaller-in-Next-2 c = (on_moved _ _ _ c.loop-t.invariant c.in_ok-t.ensures c.in-Next.is).0
 
 pub loop-t-preserved-in-Next-2 : goal.loop-t-preserved-in-Next-2
-loop-t-preserved-in-Next-2 c = (on_moved _ _ _ _ c.loop-t.invariant c.in_ok-t.ensures _ _ refl c.in-Next.is).1
+loop-t-preserved-in-Next-2 c = (on_moved _ _ _ c.loop-t.invariant c.in_ok-t.ensures c.in-Next.is).1
 
 pub loop-t-smaller-in-Next-3 : goal.loop-t-smaller-in-Next-3
-loop-t-smaller-in-Next-3 c = (on_moved _ _ _ _ c.loop-t.invariant c.in_ok-t.ensures _ _ refl c.in-Next.is).0
+loop-t-smaller-in-Next-3 c = (on_moved _ _ _ c.loop-t.invariant c.in_ok-t.ensures c.in-Next.is).0
 
 pub loop-t-preserved-in-Next-3 : goal.loop-t-preserved-in-Next-3
-loop-t-preserved-in-Next-3 c = (on_moved _ _ _ _ c.loop-t.invariant c.in_ok-t.ensures _ _ refl c.in-Next.is).1
+loop-t-preserved-in-Next-3 c = (on_moved _ _ _ c.loop-t.invariant c.in_ok-t.ensures c.in-Next.is).1
 
 pub returns-in-End : goal.returns-in-End
 returns-in-End c = on_end _ _ _ _ c.loop-t.invariant c.in_ok-t.ensures _ (ap Ok c.in-End.is)
