@@ -1,7 +1,7 @@
 -- What the schedule and the index answer makes the answer to the draft, and their words stand where it is accepted. Assumes nothing.
 use Rattle.std.proofs.Common.{Option, Some, None}
 use mathlib.Core.Path.{◌≡◌, refl, sym, ap, ◌∙◌, subst}
-use mathlib.Core.Bool.{Bool, true, false, ◌&&◌}
+use mathlib.Core.Bool.{Bool, true, false, ◌&&◌, false≢true}
 use mathlib.Core.List.{List}
 use Prim.Native.Nat.{ℕ, ◌*◌, ◌/◌, ◌≤◌, ◌<◌}
 use native.Mathlib.Omega.{arith}
@@ -69,9 +69,6 @@ no_room {T} o why e h q = ap error (h ∙ ap (λ (x : Option T). ok_or x e) q)
     error (Err r) = r
 
 -- ---- the draft
-untrue : {P : Type 0} → false ≡ true → P
-untrue e = let z : ◌≡◌ {A = ℕ} 0 1 = ap (λ (b : Bool). pick b 1 0) e in absurd (omega arith)
-
 module _ (w h b : ℕ) (rs : List Float) (n : ℕ) (ibs : List Float) (first commands R G W : ℕ) where
   abbrev d : Draft
   d = draft_in w h b rs n ibs first commands
@@ -80,7 +77,7 @@ module _ (w h b : ℕ) (rs : List Float) (n : ℕ) (ibs : List Float) (first com
   Judges p gs ws = (p ≡ judged (rooms R G W) (draft_in w h b rs n ibs first commands)) × StandsIf p (draft_in w h b rs n ibs first commands) rs gs ws
 
   fits_false : draft_fits (rooms R G W) d ≡ false → (gs ws : List ℕ) → Judges (refused NoRoom 0) gs ws
-  fits_false e gs ws = (rw e, λ f. untrue f)
+  fits_false e gs ws = (rw e, λ f. absurd (false≢true f))
 
   and_false : (x y : Bool) → y ≡ false → (x && y) ≡ false
   and_false true y e = e
@@ -127,7 +124,7 @@ module _ (w h b : ℕ) (rs : List Float) (n : ℕ) (ibs : List Float) (first com
 
           low : (z : Bool) → leb (length words) W ≡ z → accepted (pick z (Ok (planned n (length words) (work_of commands t.regions t.pixels))) (refused NoRoom 0)) ≡ true → length words ≤ W
           low true g q = leb-true (length words) W g
-          low false g q = untrue q
+          low false g q = absurd (false≢true q)
 
           stands : StandsIf p (draft_in w h b rs n ibs first commands) rs new ws
           stands q =

@@ -4,6 +4,7 @@ use Rattle.refusals.specs.declared.Fault.TheVariants.{NoRoom}
 use Rattle.refusals.specs.declared.Refusal.{Refusal}
 use Rattle.refusals.specs.Table.{refused}
 use Rattle.std.proofs.Common.{◌≡◌, ℕ, ◌+◌, ◌-◌, ◌*◌, ◌≤◌, Bool, true, false, ltb, List, [], ◌∷◌, map, length, take, drop, length-drop, ◌/◌, sym, refl, ap, ◌∙◌, subst, arith}
+use mathlib.Core.Bool.{false≢true}
 use lib.Ieee.{Float, binary64, of_bits, of_int}
 use Rattle.lists.proofs.Picks.{pick_cases}
 use Rattle.floats.specs.Whole.{whole}
@@ -38,7 +39,7 @@ use Rattle.frame_drafts.specs.Listing.{Stand}
 use Rattle.frame_drafts.specs.declared.Items.{Items as Counts}
 use Rattle.frame_drafts.specs.Counts.{count_both, items_of, items_of_both}
 use Rattle.frame_drafts.proofs.Holdings.{first_within, both_within, items_same, items_room, list_length, stored_boxes}
-use Rattle.frame_drafts.proofs.Judgements.{untrue, answered, no_items}
+use Rattle.frame_drafts.proofs.Judgements.{answered, no_items}
 
 -- what is lent for a call, with this scratch for its lists
 abbrev lent_for : Space → List ℕ → ℕ → ℕ → ℕ → Lent
@@ -211,7 +212,7 @@ header_fits s =
 -- what is refused leaves nothing to stand
 pub none_stands : (why : Refusal) (o : Outcome) (rs : List Float) (gs ws : List ℕ) → StandsFor (Err why) o rs gs ws
 none_stands why (turned r) rs gs ws = tt
-none_stands why (drafted i d) rs gs ws = λ e. untrue e
+none_stands why (drafted i d) rs gs ws = λ e. absurd (false≢true e)
 
 module _ (s : List ℕ) (r : Result Screen Refusal) (a : r ≡ header_of s) where
   pub header_sizes : (sizes : Screen) → r ≡ Ok sizes → Sizes sizes.width sizes.height sizes.band_height

@@ -1,5 +1,6 @@
 -- What sizes are that fit. Assumes nothing.
-use Rattle.std.proofs.Common.{◌≡◌, ℕ, ◌<◌, ◌≤◌, Bool, true, false, ◌&&◌, eqb, leb, refl, ap, arith, leb-true}
+use Rattle.std.proofs.Common.{◌≡◌, ℕ, ◌<◌, ◌≤◌, Bool, true, false, ◌&&◌, eqb, leb, refl, arith, leb-true}
+use mathlib.Core.Bool.{false≢true}
 use lib.Ieee.Fits.{and_l, and_r}
 use borrow.Author.Tests.{eqb-false}
 use Rattle.lists.specs.Pick.{pick}
@@ -7,15 +8,12 @@ use Rattle.lists.proofs.Bools.{holds, is_true}
 use Rattle.screen.specs.declared.Screen.{Screen}
 use Rattle.screen.specs.Sizes.{size_fits, fits}
 
-untrue : {P : Type 0} → false ≡ true → P
-untrue e = let z : ◌≡◌ {A = ℕ} 0 1 = ap (λ (b : Bool). pick b 1 0) e in absurd (omega arith)
-
 pub size_of : (n : ℕ) → size_fits n ≡ true → (0 < n) × (n ≤ 32768)
 unfolding size_fits
 size_of n e = go (eqb n 0) refl e
   where
     go : (t : Bool) → eqb n 0 ≡ t → pick t false (leb n 32768) ≡ true → (0 < n) × (n ≤ 32768)
-    go true q e = untrue e
+    go true q e = absurd (false≢true e)
     go false q e = let z = eqb-false n 0 q in (omega (arith, z), leb-true n 32768 e)
 
 -- a screen whose sizes are from 1 to 32,768
