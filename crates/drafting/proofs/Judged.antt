@@ -47,15 +47,15 @@ module _ (ws : List ℕ) (n : ℕ) where
       go true h e = let z : ◌≡◌ {A = ℕ} 0 1 = cc in absurd (omega arith)
       go false h e = leb-false (length ws) n h
 
-module _ (room rects commands regions pixels h b : ℕ) (boxes : List Float) (old : List ℕ) (r : Option ℕ) (p : r ≡ answer (index_of boxes commands h b) (length old)) where
+module _ (room rects commands regions pixels h b : ℕ) (boxes : List Float) (old : List ℕ) {r : Option ℕ} (p : r ≡ answer (index_of boxes commands h b) (length old)) where
   abbrev ws : List ℕ
   ws = index_of boxes commands h b
 
-  pub index_over : (count : ℕ) → r ≡ Some count → room < count → refused NoRoom 0 ≡ indexed (index_of boxes commands h b) room rects commands regions pixels
-  index_over count q l = let e = words_count ws (length old) count (sym q ∙ p) in rw (lt-leb (length ws) room (omega arith))
+  pub index_over : {count : ℕ} → r ≡ Some count → room < count → refused NoRoom 0 ≡ indexed (index_of boxes commands h b) room rects commands regions pixels
+  index_over {count} q l = let e = words_count ws (length old) count (sym q ∙ p) in rw (lt-leb (length ws) room (omega arith))
 
-  pub index_fits : (count : ℕ) → r ≡ Some count → count ≤ room → (work : FrameWork) → work ≡ work_of commands regions pixels → Ok (planned rects count work) ≡ indexed (index_of boxes commands h b) room rects commands regions pixels
-  index_fits count q l work f = let e = words_count ws (length old) count (sym q ∙ p) in rw (le-leb (length ws) room (omega arith)) (λ i. Ok (planned rects (e i) (f i)))
+  pub index_fits : {count : ℕ} → r ≡ Some count → count ≤ room → {work : FrameWork} → work ≡ work_of commands regions pixels → Ok (planned rects count work) ≡ indexed (index_of boxes commands h b) room rects commands regions pixels
+  index_fits {count} q l {work} f = let e = words_count ws (length old) count (sym q ∙ p) in rw (le-leb (length ws) room (omega arith)) (λ i. Ok (planned rects (e i) (f i)))
 
   pub index_full : r ≡ None → room ≤ length old → refused NoRoom 0 ≡ indexed (index_of boxes commands h b) room rects commands regions pixels
   index_full q l = let e = words_many ws (length old) (sym q ∙ p) in rw (lt-leb (length ws) room (omega arith))
@@ -91,24 +91,24 @@ module _ (w h b : ℕ) (rs : List Float) (n : ℕ) (ibs : List Float) (first com
   unfolding draft_fits
   regions_many k = fits_false (and_false (leb (length (rects_to rs n)) R) _ (rw (lt-leb (length (schedule w h b (rects_to rs n))) G k)))
 
-  module _ (gs new : List ℕ) where
-    -- the schedule is of the rectangles in front
-    pub of_front : n ≤ R → 4 * R ≤ length rs → (x : Option Totals) → Answers (schedule w h b (rects_to (take (4 * n) rs) (length (take (4 * n) rs) / 4))) gs x new → Answers (schedule w h b (rects_to rs n)) gs x new
-    of_front k l x = subst (λ (r : List Rect). Answers (schedule w h b r) gs x new) (part_rects rs n (omega arith))
+  -- the rectangles fit, and those in front are scheduled
+  module _ {gs new : List ℕ} (few : n ≤ R) (long : 4 * R ≤ length rs) {x : Option Totals} (front : Answers (schedule w h b (rects_to (take (4 * n) rs) (length (take (4 * n) rs) / 4))) gs x new) where
+    given : Answers (schedule w h b (rects_to rs n)) gs x new
+    given = subst (λ (r : List Rect). Answers (schedule w h b r) gs x new) (part_rects rs n (omega arith)) front
 
-    pub regions_full : 4 * G ≤ length gs → (x : Option Totals) → Answers (schedule w h b (rects_to rs n)) gs x new → x ≡ None → (xs ws : List ℕ) → Judges (refused NoRoom 0) xs ws
-    regions_full k x a q = regions_many (omega (arith, unlisted (schedule w h b (rects_to rs n)) gs new (subst (λ (y : Option Totals). Answers (schedule w h b (rects_to rs n)) gs y new) q a)))
+    pub regions_full : 4 * G ≤ length gs → x ≡ None → (xs ws : List ℕ) → Judges (refused NoRoom 0) xs ws
+    regions_full k q = regions_many (omega (arith, unlisted (schedule w h b (rects_to rs n)) gs new (subst (λ (y : Option Totals). Answers (schedule w h b (rects_to rs n)) gs y new) q given)))
 
-    module _ (x : Option Totals) (given : Answers (schedule w h b (rects_to rs n)) gs x new) (t : Totals) (q : x ≡ Some t) where
+    module _ {t : Totals} (q : x ≡ Some t) where
       told : Answers (schedule w h b (rects_to rs n)) gs (Some t) new
       told = subst (λ (y : Option Totals). Answers (schedule w h b (rects_to rs n)) gs y new) q given
 
       pub regions_over : G < t.regions → (xs ws : List ℕ) → Judges (refused NoRoom 0) xs ws
       regions_over k = regions_many (omega (arith, (answered (schedule w h b (rects_to rs n)) gs new t told).count_is))
 
-      pub regions_fit : n ≤ R → 4 * R ≤ length rs → t.regions ≤ G → (p : Result Plan Refusal) (old ws : List ℕ) → W ≤ length old → p ≡ indexed (index_of (drop (4 * first) ibs) commands h b) W n commands t.regions t.pixels → ws ≡ stored (index_of (drop (4 * first) ibs) commands h b) old → Judges p new ws
+      pub regions_fit : t.regions ≤ G → {p : Result Plan Refusal} {ws : List ℕ} (old : List ℕ) → W ≤ length old → p ≡ indexed (index_of (drop (4 * first) ibs) commands h b) W n commands t.regions t.pixels → ws ≡ stored (index_of (drop (4 * first) ibs) commands h b) old → Judges p new ws
       unfolding draft_fits
-      regions_fit k l m p old ws room e f = (answer_is, stands)
+      regions_fit m {p} {ws} old room e f = (answer_is, stands)
         where
           listed : Listed (schedule w h b (rects_to rs n)) gs t.regions t.pixels new
           listed = answered (schedule w h b (rects_to rs n)) gs new t told
