@@ -76,18 +76,18 @@ module _ (w h b : ℕ) (rs : List Float) (n : ℕ) (ibs : List Float) (first com
   abbrev Judges : Result Plan Refusal → List ℕ → List ℕ → Type 0
   Judges p gs ws = (p ≡ judged (rooms R G W) (draft_in w h b rs n ibs first commands)) × StandsIf p (draft_in w h b rs n ibs first commands) rs gs ws
 
-  fits_false : draft_fits (rooms R G W) d ≡ false → (gs ws : List ℕ) → Judges (refused NoRoom 0) gs ws
-  fits_false e gs ws = (rw e, λ f. absurd (false≢true f))
+  fits_false : draft_fits (rooms R G W) d ≡ false → refused NoRoom 0 ≡ judged (rooms R G W) (draft_in w h b rs n ibs first commands)
+  fits_false e = rw e
 
   and_false : (x y : Bool) → y ≡ false → (x && y) ≡ false
   and_false true y e = e
   and_false false y e = refl
 
-  pub rects_over : R < n → (gs ws : List ℕ) → Judges (refused NoRoom 0) gs ws
+  pub rects_over : R < n → refused NoRoom 0 ≡ judged (rooms R G W) (draft_in w h b rs n ibs first commands)
   unfolding draft_fits
   rects_over k = fits_false (rw (lt-leb (length (rects_to rs n)) R (omega (arith, rects_length rs n))))
 
-  regions_many : G < length (schedule w h b (rects_to rs n)) → (gs ws : List ℕ) → Judges (refused NoRoom 0) gs ws
+  regions_many : G < length (schedule w h b (rects_to rs n)) → refused NoRoom 0 ≡ judged (rooms R G W) (draft_in w h b rs n ibs first commands)
   unfolding draft_fits
   regions_many k = fits_false (and_false (leb (length (rects_to rs n)) R) _ (rw (lt-leb (length (schedule w h b (rects_to rs n))) G k)))
 
@@ -96,14 +96,14 @@ module _ (w h b : ℕ) (rs : List Float) (n : ℕ) (ibs : List Float) (first com
     given : Answers (schedule w h b (rects_to rs n)) gs x new
     given = subst (λ (r : List Rect). Answers (schedule w h b r) gs x new) (part_rects rs n (omega arith)) front
 
-    pub regions_full : 4 * G ≤ length gs → x ≡ None → (xs ws : List ℕ) → Judges (refused NoRoom 0) xs ws
+    pub regions_full : 4 * G ≤ length gs → x ≡ None → refused NoRoom 0 ≡ judged (rooms R G W) (draft_in w h b rs n ibs first commands)
     regions_full k q = regions_many (omega (arith, unlisted (schedule w h b (rects_to rs n)) gs new (subst (λ (y : Option Totals). Answers (schedule w h b (rects_to rs n)) gs y new) q given)))
 
     module _ {t : Totals} (q : x ≡ Some t) where
       told : Answers (schedule w h b (rects_to rs n)) gs (Some t) new
       told = subst (λ (y : Option Totals). Answers (schedule w h b (rects_to rs n)) gs y new) q given
 
-      pub regions_over : G < t.regions → (xs ws : List ℕ) → Judges (refused NoRoom 0) xs ws
+      pub regions_over : G < t.regions → refused NoRoom 0 ≡ judged (rooms R G W) (draft_in w h b rs n ibs first commands)
       regions_over k = regions_many (omega (arith, (answered (schedule w h b (rects_to rs n)) gs new t told).count_is))
 
       pub regions_fit : t.regions ≤ G → {p : Result Plan Refusal} {ws : List ℕ} (old : List ℕ) → W ≤ length old → p ≡ indexed (index_of (drop (4 * first) ibs) commands h b) W n commands t.regions t.pixels → ws ≡ stored (index_of (drop (4 * first) ibs) commands h b) old → Judges p new ws
