@@ -73,21 +73,21 @@ module _ (w h b : ℕ) (rs : List Float) (n : ℕ) (ibs : List Float) (first com
   abbrev d : Draft
   d = draft_in w h b rs n ibs first commands
 
-  abbrev Judges : Result Plan Refusal → List ℕ → List ℕ → Type 0
-  Judges p gs ws = (p ≡ judged (rooms R G W) (draft_in w h b rs n ibs first commands)) × StandsIf p (draft_in w h b rs n ibs first commands) rs gs ws
+  abbrev Refused : Type 0
+  Refused = refused NoRoom 0 ≡ judged (rooms R G W) (draft_in w h b rs n ibs first commands)
 
-  fits_false : draft_fits (rooms R G W) d ≡ false → refused NoRoom 0 ≡ judged (rooms R G W) (draft_in w h b rs n ibs first commands)
+  fits_false : draft_fits (rooms R G W) d ≡ false → Refused
   fits_false e = rw e
 
   and_false : (x y : Bool) → y ≡ false → (x && y) ≡ false
   and_false true y e = e
   and_false false y e = refl
 
-  pub rects_over : R < n → refused NoRoom 0 ≡ judged (rooms R G W) (draft_in w h b rs n ibs first commands)
+  pub rects_over : R < n → Refused
   unfolding draft_fits
   rects_over k = fits_false (rw (lt-leb (length (rects_to rs n)) R (omega (arith, rects_length rs n))))
 
-  regions_many : G < length (schedule w h b (rects_to rs n)) → refused NoRoom 0 ≡ judged (rooms R G W) (draft_in w h b rs n ibs first commands)
+  regions_many : G < length (schedule w h b (rects_to rs n)) → Refused
   unfolding draft_fits
   regions_many k = fits_false (and_false (leb (length (rects_to rs n)) R) _ (rw (lt-leb (length (schedule w h b (rects_to rs n))) G k)))
 
@@ -96,17 +96,17 @@ module _ (w h b : ℕ) (rs : List Float) (n : ℕ) (ibs : List Float) (first com
     given : Answers (schedule w h b (rects_to rs n)) gs x new
     given = subst (λ (r : List Rect). Answers (schedule w h b r) gs x new) (part_rects rs n (omega arith)) front
 
-    pub regions_full : 4 * G ≤ length gs → x ≡ None → refused NoRoom 0 ≡ judged (rooms R G W) (draft_in w h b rs n ibs first commands)
+    pub regions_full : 4 * G ≤ length gs → x ≡ None → Refused
     regions_full k q = regions_many (omega (arith, unlisted (schedule w h b (rects_to rs n)) gs new (subst (λ (y : Option Totals). Answers (schedule w h b (rects_to rs n)) gs y new) q given)))
 
     module _ {t : Totals} (q : x ≡ Some t) where
       told : Answers (schedule w h b (rects_to rs n)) gs (Some t) new
       told = subst (λ (y : Option Totals). Answers (schedule w h b (rects_to rs n)) gs y new) q given
 
-      pub regions_over : G < t.regions → refused NoRoom 0 ≡ judged (rooms R G W) (draft_in w h b rs n ibs first commands)
+      pub regions_over : G < t.regions → Refused
       regions_over k = regions_many (omega (arith, (answered (schedule w h b (rects_to rs n)) gs new t told).count_is))
 
-      pub regions_fit : t.regions ≤ G → {p : Result Plan Refusal} {ws : List ℕ} (old : List ℕ) → W ≤ length old → p ≡ indexed (index_of (drop (4 * first) ibs) commands h b) W n commands t.regions t.pixels → ws ≡ stored (index_of (drop (4 * first) ibs) commands h b) old → Judges p new ws
+      pub regions_fit : t.regions ≤ G → {p : Result Plan Refusal} {ws : List ℕ} (old : List ℕ) → W ≤ length old → p ≡ indexed (index_of (drop (4 * first) ibs) commands h b) W n commands t.regions t.pixels → ws ≡ stored (index_of (drop (4 * first) ibs) commands h b) old → (p ≡ judged (rooms R G W) (draft_in w h b rs n ibs first commands)) × StandsIf p (draft_in w h b rs n ibs first commands) rs new ws
       unfolding draft_fits
       regions_fit m {p} {ws} old room e f = (answer_is, stands)
         where
