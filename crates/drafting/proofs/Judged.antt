@@ -74,7 +74,7 @@ module _ (w h b : ℕ) (rs : List Float) (n : ℕ) (ibs : List Float) (first com
   d = draft_in w h b rs n ibs first commands
 
   abbrev Refused : Type 0
-  Refused = refused NoRoom 0 ≡ judged (rooms R G W) (draft_in w h b rs n ibs first commands)
+  Refused = refused NoRoom 0 ≡ judged (rooms R G W) d
 
   fits_false : draft_fits (rooms R G W) d ≡ false → Refused
   fits_false e = rw e
@@ -93,30 +93,27 @@ module _ (w h b : ℕ) (rs : List Float) (n : ℕ) (ibs : List Float) (first com
 
   -- the rectangles fit, and those in front are scheduled
   module _ {gs new : List ℕ} (few : n ≤ R) (long : 4 * R ≤ length rs) {x : Option Totals} (front : Answers (schedule w h b (rects_to (take (4 * n) rs) (length (take (4 * n) rs) / 4))) gs x new) where
-    given : Answers (schedule w h b (rects_to rs n)) gs x new
-    given = subst (λ (r : List Rect). Answers (schedule w h b r) gs x new) (part_rects rs n (omega arith)) front
+    given : {y : Option Totals} → x ≡ y → Answers (schedule w h b (rects_to rs n)) gs y new
+    given q = subst (λ (y : Option Totals). Answers (schedule w h b (rects_to rs n)) gs y new) q (subst (λ (r : List Rect). Answers (schedule w h b r) gs x new) (part_rects rs n (omega arith)) front)
 
     pub regions_full : 4 * G ≤ length gs → x ≡ None → Refused
-    regions_full k q = regions_many (omega (arith, unlisted (schedule w h b (rects_to rs n)) gs new (subst (λ (y : Option Totals). Answers (schedule w h b (rects_to rs n)) gs y new) q given)))
+    regions_full k q = regions_many (omega (arith, unlisted (schedule w h b (rects_to rs n)) gs new (given q)))
 
     module _ {t : Totals} (q : x ≡ Some t) where
-      told : Answers (schedule w h b (rects_to rs n)) gs (Some t) new
-      told = subst (λ (y : Option Totals). Answers (schedule w h b (rects_to rs n)) gs y new) q given
-
       pub regions_over : G < t.regions → Refused
-      regions_over k = regions_many (omega (arith, (answered (schedule w h b (rects_to rs n)) gs new t told).count_is))
+      regions_over k = regions_many (omega (arith, (answered (schedule w h b (rects_to rs n)) gs new t (given q)).count_is))
 
-      pub regions_fit : t.regions ≤ G → {p : Result Plan Refusal} {ws : List ℕ} (old : List ℕ) → W ≤ length old → p ≡ indexed (index_of (drop (4 * first) ibs) commands h b) W n commands t.regions t.pixels → ws ≡ stored (index_of (drop (4 * first) ibs) commands h b) old → (p ≡ judged (rooms R G W) (draft_in w h b rs n ibs first commands)) × StandsIf p (draft_in w h b rs n ibs first commands) rs new ws
+      pub regions_fit : t.regions ≤ G → {p : Result Plan Refusal} {ws : List ℕ} (old : List ℕ) → W ≤ length old → p ≡ indexed (index_of (drop (4 * first) ibs) commands h b) W n commands t.regions t.pixels → ws ≡ stored (index_of (drop (4 * first) ibs) commands h b) old → (p ≡ judged (rooms R G W) d) × StandsIf p d rs new ws
       unfolding draft_fits
       regions_fit m {p} {ws} old room e f = (answer_is, stands)
         where
           listed : Listed (schedule w h b (rects_to rs n)) gs t.regions t.pixels new
-          listed = answered (schedule w h b (rects_to rs n)) gs new t told
+          listed = answered (schedule w h b (rects_to rs n)) gs new t (given q)
 
           words : List ℕ
           words = index_of (drop (4 * first) ibs) commands h b
 
-          answer_is : p ≡ judged (rooms R G W) (draft_in w h b rs n ibs first commands)
+          answer_is : p ≡ judged (rooms R G W) d
           answer_is =
               let u : leb (length (rects_to rs n)) R ≡ true = le-leb (length (rects_to rs n)) R (omega (arith, rects_length rs n)) in
               let v : leb (length (schedule w h b (rects_to rs n))) G ≡ true = le-leb (length (schedule w h b (rects_to rs n))) G (omega (arith, listed.count_is)) in
@@ -126,7 +123,7 @@ module _ (w h b : ℕ) (rs : List Float) (n : ℕ) (ibs : List Float) (first com
           low true g q = leb-true (length words) W g
           low false g q = absurd (false≢true q)
 
-          stands : StandsIf p (draft_in w h b rs n ibs first commands) rs new ws
+          stands : StandsIf p d rs new ws
           stands q =
               let r = rects_length rs n in
               let small = low (leb (length words) W) refl (sym (ap accepted e) ∙ q) in
