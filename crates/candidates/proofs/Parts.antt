@@ -1,5 +1,5 @@
 -- A part that is found lies within the words; and the number tells whether one is found. Assumes nothing.
-use mathlib.Core.Path.{◌≡◌, refl, subst, ◌∙◌}
+use mathlib.Core.Path.{◌≡◌, refl, sym, subst, ◌∙◌}
 use mathlib.Core.Bool.{Bool, true, false, ◌||◌, ◌&&◌, not}
 use Prim.Native.Nat.{ℕ, ◌+◌, ◌-◌, ◌/◌, ◌≤◌, ◌<◌}
 use mathlib.Core.List.{List}
@@ -11,6 +11,7 @@ use Rattle.lists.specs.Pick.{pick}
 use Rattle.lists.proofs.Picks.{by_le}
 use Rattle.rows.specs.Rows.{row_count}
 use Rattle.std.specs.Prelude.{Result, Ok, Err}
+use Rattle.std.proofs.lemmas.Bool.{or_parts}
 use Rattle.refusals.specs.declared.Fault.{Fault}
 use Rattle.refusals.specs.declared.Fault.TheVariants.{Size, NoRow}
 use Rattle.refusals.specs.declared.Refusal.{Refusal}
@@ -20,11 +21,6 @@ use Rattle.screen.specs.declared.Screen.{Screen}
 use Rattle.screen.specs.Sizes.{size_fits, fits}
 use Rattle.candidates.specs.declared.Part.{Part}
 use Rattle.candidates.specs.Table.{bad_size, bad_sizes, bad_row, part, find_row, find, number_of, refusal}
-
--- of two tests of which neither holds, each fails
-pub neither : (a b : Bool) → (a || b) ≡ false → (a ≡ false) × (b ≡ false)
-neither true b e = let z : ◌≡◌ {A = ℕ} 0 1 = cc in absurd (omega arith)
-neither false b e = (refl, e)
 
 -- a size is refused where it does not fit
 size_refused : (n : ℕ) → bad_size n ≡ not (size_fits n)
@@ -73,15 +69,15 @@ row_within rows r part words h =
     let f = ltb (get_or words (r + 1) 0) (get_or words r 0) in
     let p = ltb (length words - (rows + 1)) (get_or words (r + 1) 0) in
     let g = found (n || l || f || p) NoRow part _ h in
-    let u = neither (n || l || f) p g.0 in
-    let v = neither (n || l) f u.0 in
-    let w = neither n l v.0 in
+    let u = or_parts (n || l || f) p g.0 in
+    let v = or_parts (n || l) f u.0 in
+    let w = or_parts n l v.0 in
     within rows r part words (leb-false (length words) rows w.1) (ltb-false (get_or words (r + 1) 0) (get_or words r 0) v.1) (ltb-false (length words - (rows + 1)) (get_or words (r + 1) 0) u.1) g.1
 
-pub part_within : (width height band y : ℕ) (p : Part) (words : List ℕ) → find width height band y words ≡ Ok p → (p.start ≤ p.end) × (p.end ≤ length words)
+pub part_within : (width height band y : ℕ) (words : List ℕ) {x : Result Part Refusal} {p : Part} → x ≡ find width height band y words → x ≡ Ok p → (p.start ≤ p.end) × (p.end ≤ length words)
 unfolding find
-part_within width height band y p words h =
-    row_within (row_count height band) (y / band) p words (found (bad_sizes width height band) Size p _ h).1
+part_within width height band y words {p = p} e h =
+    row_within (row_count height band) (y / band) p words (found (bad_sizes width height band) Size p _ (sym e ∙ h)).1
 
 -- ---- the number
 abbrev Tells : Result Part Refusal → Type 0

@@ -1,7 +1,7 @@
 -- What the schedule and the index answer makes the answer to the draft, and their words stand where it is accepted. Assumes nothing.
 use Rattle.std.proofs.Common.{Option, Some, None}
 use mathlib.Core.Path.{◌≡◌, refl, sym, ap, ◌∙◌, subst}
-use mathlib.Core.Bool.{Bool, true, false, ◌&&◌}
+use mathlib.Core.Bool.{Bool, true, false, ◌&&◌, false≢true}
 use mathlib.Core.List.{List}
 use Prim.Native.Nat.{ℕ, ◌*◌, ◌/◌, ◌≤◌, ◌<◌}
 use native.Mathlib.Omega.{arith}
@@ -47,15 +47,15 @@ module _ (ws : List ℕ) (n : ℕ) where
       go true h e = let z : ◌≡◌ {A = ℕ} 0 1 = cc in absurd (omega arith)
       go false h e = leb-false (length ws) n h
 
-module _ (room rects commands regions pixels h b : ℕ) (boxes : List Float) (old : List ℕ) (r : Option ℕ) (p : r ≡ answer (index_of boxes commands h b) (length old)) where
+module _ (room rects commands regions pixels h b : ℕ) (boxes : List Float) (old : List ℕ) {r : Option ℕ} (p : r ≡ answer (index_of boxes commands h b) (length old)) where
   abbrev ws : List ℕ
   ws = index_of boxes commands h b
 
-  pub index_over : (count : ℕ) → r ≡ Some count → room < count → refused NoRoom 0 ≡ indexed (index_of boxes commands h b) room rects commands regions pixels
-  index_over count q l = let e = words_count ws (length old) count (sym q ∙ p) in rw (lt-leb (length ws) room (omega arith))
+  pub index_over : {count : ℕ} → r ≡ Some count → room < count → refused NoRoom 0 ≡ indexed (index_of boxes commands h b) room rects commands regions pixels
+  index_over {count} q l = let e = words_count ws (length old) count (sym q ∙ p) in rw (lt-leb (length ws) room (omega arith))
 
-  pub index_fits : (count : ℕ) → r ≡ Some count → count ≤ room → (work : FrameWork) → work ≡ work_of commands regions pixels → Ok (planned rects count work) ≡ indexed (index_of boxes commands h b) room rects commands regions pixels
-  index_fits count q l work f = let e = words_count ws (length old) count (sym q ∙ p) in rw (le-leb (length ws) room (omega arith)) (λ i. Ok (planned rects (e i) (f i)))
+  pub index_fits : {count : ℕ} → r ≡ Some count → count ≤ room → {work : FrameWork} → work ≡ work_of commands regions pixels → Ok (planned rects count work) ≡ indexed (index_of boxes commands h b) room rects commands regions pixels
+  index_fits {count} q l {work} f = let e = words_count ws (length old) count (sym q ∙ p) in rw (le-leb (length ws) room (omega arith)) (λ i. Ok (planned rects (e i) (f i)))
 
   pub index_full : r ≡ None → room ≤ length old → refused NoRoom 0 ≡ indexed (index_of boxes commands h b) room rects commands regions pixels
   index_full q l = let e = words_many ws (length old) (sym q ∙ p) in rw (lt-leb (length ws) room (omega arith))
@@ -69,57 +69,51 @@ no_room {T} o why e h q = ap error (h ∙ ap (λ (x : Option T). ok_or x e) q)
     error (Err r) = r
 
 -- ---- the draft
-untrue : {P : Type 0} → false ≡ true → P
-untrue e = let z : ◌≡◌ {A = ℕ} 0 1 = ap (λ (b : Bool). pick b 1 0) e in absurd (omega arith)
-
 module _ (w h b : ℕ) (rs : List Float) (n : ℕ) (ibs : List Float) (first commands R G W : ℕ) where
   abbrev d : Draft
   d = draft_in w h b rs n ibs first commands
 
-  abbrev Judges : Result Plan Refusal → List ℕ → List ℕ → Type 0
-  Judges p gs ws = (p ≡ judged (rooms R G W) (draft_in w h b rs n ibs first commands)) × StandsIf p (draft_in w h b rs n ibs first commands) rs gs ws
+  abbrev Refused : Type 0
+  Refused = refused NoRoom 0 ≡ judged (rooms R G W) d
 
-  fits_false : draft_fits (rooms R G W) d ≡ false → (gs ws : List ℕ) → Judges (refused NoRoom 0) gs ws
-  fits_false e gs ws = (rw e, λ f. untrue f)
+  fits_false : draft_fits (rooms R G W) d ≡ false → Refused
+  fits_false e = rw e
 
   and_false : (x y : Bool) → y ≡ false → (x && y) ≡ false
   and_false true y e = e
   and_false false y e = refl
 
-  pub rects_over : R < n → (gs ws : List ℕ) → Judges (refused NoRoom 0) gs ws
+  pub rects_over : R < n → Refused
   unfolding draft_fits
   rects_over k = fits_false (rw (lt-leb (length (rects_to rs n)) R (omega (arith, rects_length rs n))))
 
-  regions_many : G < length (schedule w h b (rects_to rs n)) → (gs ws : List ℕ) → Judges (refused NoRoom 0) gs ws
+  regions_many : G < length (schedule w h b (rects_to rs n)) → Refused
   unfolding draft_fits
   regions_many k = fits_false (and_false (leb (length (rects_to rs n)) R) _ (rw (lt-leb (length (schedule w h b (rects_to rs n))) G k)))
 
-  module _ (gs new : List ℕ) where
-    -- the schedule is of the rectangles in front
-    pub of_front : n ≤ R → 4 * R ≤ length rs → (x : Option Totals) → Answers (schedule w h b (rects_to (take (4 * n) rs) (length (take (4 * n) rs) / 4))) gs x new → Answers (schedule w h b (rects_to rs n)) gs x new
-    of_front k l x = subst (λ (r : List Rect). Answers (schedule w h b r) gs x new) (part_rects rs n (omega arith))
+  -- the rectangles fit, and those in front are scheduled
+  module _ {gs new : List ℕ} (few : n ≤ R) (long : 4 * R ≤ length rs) {x : Option Totals} (front : Answers (schedule w h b (rects_to (take (4 * n) rs) (length (take (4 * n) rs) / 4))) gs x new) where
+    given : {y : Option Totals} → x ≡ y → Answers (schedule w h b (rects_to rs n)) gs y new
+    given q = subst (λ (y : Option Totals). Answers (schedule w h b (rects_to rs n)) gs y new) q (subst (λ (r : List Rect). Answers (schedule w h b r) gs x new) (part_rects rs n (omega arith)) front)
 
-    pub regions_full : 4 * G ≤ length gs → (x : Option Totals) → Answers (schedule w h b (rects_to rs n)) gs x new → x ≡ None → (xs ws : List ℕ) → Judges (refused NoRoom 0) xs ws
-    regions_full k x a q = regions_many (omega (arith, unlisted (schedule w h b (rects_to rs n)) gs new (subst (λ (y : Option Totals). Answers (schedule w h b (rects_to rs n)) gs y new) q a)))
+    pub regions_full : 4 * G ≤ length gs → x ≡ None → Refused
+    regions_full k q = regions_many (omega (arith, unlisted (schedule w h b (rects_to rs n)) gs new (given q)))
 
-    module _ (x : Option Totals) (given : Answers (schedule w h b (rects_to rs n)) gs x new) (t : Totals) (q : x ≡ Some t) where
-      told : Answers (schedule w h b (rects_to rs n)) gs (Some t) new
-      told = subst (λ (y : Option Totals). Answers (schedule w h b (rects_to rs n)) gs y new) q given
+    module _ {t : Totals} (q : x ≡ Some t) where
+      pub regions_over : G < t.regions → Refused
+      regions_over k = regions_many (omega (arith, (answered (schedule w h b (rects_to rs n)) gs new t (given q)).count_is))
 
-      pub regions_over : G < t.regions → (xs ws : List ℕ) → Judges (refused NoRoom 0) xs ws
-      regions_over k = regions_many (omega (arith, (answered (schedule w h b (rects_to rs n)) gs new t told).count_is))
-
-      pub regions_fit : n ≤ R → 4 * R ≤ length rs → t.regions ≤ G → (p : Result Plan Refusal) (old ws : List ℕ) → W ≤ length old → p ≡ indexed (index_of (drop (4 * first) ibs) commands h b) W n commands t.regions t.pixels → ws ≡ stored (index_of (drop (4 * first) ibs) commands h b) old → Judges p new ws
+      pub regions_fit : t.regions ≤ G → {p : Result Plan Refusal} {ws : List ℕ} (old : List ℕ) → W ≤ length old → p ≡ indexed (index_of (drop (4 * first) ibs) commands h b) W n commands t.regions t.pixels → ws ≡ stored (index_of (drop (4 * first) ibs) commands h b) old → (p ≡ judged (rooms R G W) d) × StandsIf p d rs new ws
       unfolding draft_fits
-      regions_fit k l m p old ws room e f = (answer_is, stands)
+      regions_fit m {p} {ws} old room e f = (answer_is, stands)
         where
           listed : Listed (schedule w h b (rects_to rs n)) gs t.regions t.pixels new
-          listed = answered (schedule w h b (rects_to rs n)) gs new t told
+          listed = answered (schedule w h b (rects_to rs n)) gs new t (given q)
 
           words : List ℕ
           words = index_of (drop (4 * first) ibs) commands h b
 
-          answer_is : p ≡ judged (rooms R G W) (draft_in w h b rs n ibs first commands)
+          answer_is : p ≡ judged (rooms R G W) d
           answer_is =
               let u : leb (length (rects_to rs n)) R ≡ true = le-leb (length (rects_to rs n)) R (omega (arith, rects_length rs n)) in
               let v : leb (length (schedule w h b (rects_to rs n))) G ≡ true = le-leb (length (schedule w h b (rects_to rs n))) G (omega (arith, listed.count_is)) in
@@ -127,9 +121,9 @@ module _ (w h b : ℕ) (rs : List Float) (n : ℕ) (ibs : List Float) (first com
 
           low : (z : Bool) → leb (length words) W ≡ z → accepted (pick z (Ok (planned n (length words) (work_of commands t.regions t.pixels))) (refused NoRoom 0)) ≡ true → length words ≤ W
           low true g q = leb-true (length words) W g
-          low false g q = untrue q
+          low false g q = absurd (false≢true q)
 
-          stands : StandsIf p (draft_in w h b rs n ibs first commands) rs new ws
+          stands : StandsIf p d rs new ws
           stands q =
               let r = rects_length rs n in
               let small = low (leb (length words) W) refl (sym (ap accepted e) ∙ q) in

@@ -111,3 +111,6 @@ impl Space {
         )
     }
 }
+
+#[cfg(test)]
+mod tests;

@@ -4,6 +4,7 @@ use Rattle.refusals.specs.declared.Fault.TheVariants.{NoRoom}
 use Rattle.refusals.specs.declared.Refusal.{Refusal}
 use Rattle.refusals.specs.Table.{refused}
 use Rattle.std.proofs.Common.{◌≡◌, ℕ, ◌+◌, ◌-◌, ◌*◌, ◌≤◌, Bool, true, false, ltb, List, [], ◌∷◌, map, length, take, drop, length-drop, ◌/◌, sym, refl, ap, ◌∙◌, subst, arith}
+use mathlib.Core.Bool.{false≢true}
 use lib.Ieee.{Float, binary64, of_bits, of_int}
 use Rattle.lists.proofs.Picks.{pick_cases}
 use Rattle.floats.specs.Whole.{whole}
@@ -38,7 +39,7 @@ use Rattle.frame_drafts.specs.Listing.{Stand}
 use Rattle.frame_drafts.specs.declared.Items.{Items as Counts}
 use Rattle.frame_drafts.specs.Counts.{count_both, items_of, items_of_both}
 use Rattle.frame_drafts.proofs.Holdings.{first_within, both_within, items_same, items_room, list_length, stored_boxes}
-use Rattle.frame_drafts.proofs.Judgements.{untrue, answered, no_items}
+use Rattle.frame_drafts.proofs.Judgements.{answered, no_items}
 
 -- what is lent for a call, with this scratch for its lists
 abbrev lent_for : Space → List ℕ → ℕ → ℕ → ℕ → Lent
@@ -52,11 +53,11 @@ abbrev Meets : Lent → Outcome → Result Plan Refusal → List Float → List 
 Meets z o p rs gs ws = (p ≡ answer_of z o) × StandsFor p o rs gs ws
 
 -- ---- two strips
-module _ (s : List ℕ) (z y : Space) (glyphs : List ℕ) (r : Result Strips Refusal) (a : r ≡ both_of s) (l : SameLengths z y) (k : RecordsBoth s y r) where
+module _ (s : List ℕ) {z y : Space} (glyphs : List ℕ) {r : Result Strips Refusal} (a : r ≡ both_of s) (l : SameLengths z y) (k : RecordsBoth s y r) where
   pub next_refused : (why : Refusal) → r ≡ Err why → (w h b R G W : ℕ) → Err why ≡ answer_of (lent_for z glyphs R G W) (on_both w h b s (both_of s))
   next_refused why q w h b R G W = rw (sym (sym q ∙ a)) refl
 
-  module _ (both : Strips) (q : r ≡ Ok both) where
+  module _ {both : Strips} (q : r ≡ Ok both) where
     abbrev old : Cursor
     old = both.old
 
@@ -69,7 +70,7 @@ module _ (s : List ℕ) (z y : Space) (glyphs : List ℕ) (r : Result Strips Ref
     abbrev items : Items
     items = record { commands = old.commands + new.commands; glyphs = old.glyphs + new.glyphs; clips = old.clips + new.clips }
 
-    module _ (counts : Counts) (counted : counts ≡ items_of_both both) (t : Bool) (judges : t ≡ items_fit (lent y.boxes y.below y.items y.item_boxes glyphs 0 0 0) (of_counts counts)) where
+    module _ {counts : Counts} (counted : counts ≡ items_of_both both) {t : Bool} (judges : t ≡ items_fit (lent y.boxes y.below y.items y.item_boxes glyphs 0 0 0) (of_counts counts)) where
       -- no sum of two counts saturates
       same_counts : of_counts counts ≡ items
       same_counts =
@@ -96,9 +97,9 @@ module _ (s : List ℕ) (z y : Space) (glyphs : List ℕ) (r : Result Strips Ref
         pub next_stored : Stored (old.commands + new.commands) s y.boxes y.below y.items y.item_boxes × (old.commands ≤ 4096) × (new.commands ≤ 4096)
         next_stored = (two.held.stored, next_within.0.commands, next_within.1.commands)
 
-        pub next_stands : (before rs : List Float) (n : ℕ) → Listed before (diff_dirty (commands_in s y.boxes y.below y.items 0 old.commands) (commands_in s y.boxes y.below y.items old.commands new.commands)) rs n
+        pub next_stands : {before rs : List Float} {n : ℕ} → Listed before (diff_dirty (commands_in s y.boxes y.below y.items 0 old.commands) (commands_in s y.boxes y.below y.items old.commands new.commands)) rs n
             → (w h b : ℕ) → Stand w h b (on_both w h b s (both_of s)) z glyphs before rs y.items y.item_boxes (record { first = old.commands; commands = new.commands; n = n })
-        next_stands before rs n x w h b =
+        next_stands {before} {rs} {n} x w h b =
             let o = two.old_list in
             let u = two.new_list in
             record {
@@ -116,11 +117,11 @@ module _ (s : List ℕ) (z y : Space) (glyphs : List ℕ) (r : Result Strips Ref
             }
 
 -- ---- one strip
-module _ (s : List ℕ) (w h b : ℕ) (z y : Space) (glyphs : List ℕ) (r : Result Cursor Refusal) (a : r ≡ first_of s) (l : SameLengths z y) (k : RecordsFirst s y r) where
+module _ (s : List ℕ) (w h b : ℕ) {z y : Space} (glyphs : List ℕ) {r : Result Cursor Refusal} (a : r ≡ first_of s) (l : SameLengths z y) (k : RecordsFirst s y r) where
   pub first_refused : (why : Refusal) → r ≡ Err why → (R G W : ℕ) → Err why ≡ answer_of (lent_for z glyphs R G W) (on_first w h b s (first_of s))
   first_refused why q R G W = rw (sym (sym q ∙ a)) refl
 
-  module _ (new : Cursor) (q : r ≡ Ok new) (counts : Counts) (counted : counts ≡ items_of new) (t : Bool) (judges : t ≡ items_fit (lent y.boxes y.below y.items y.item_boxes glyphs 0 0 0) (of_counts counts)) where
+  module _ {new : Cursor} (q : r ≡ Ok new) {counts : Counts} (counted : counts ≡ items_of new) {t : Bool} (judges : t ≡ items_fit (lent y.boxes y.below y.items y.item_boxes glyphs 0 0 0) (of_counts counts)) where
     judged_one : t ≡ items_fit (lent y.boxes y.below y.items y.item_boxes glyphs 0 0 0) (of_counts (items_of new))
     judged_one = judges ∙ ap (λ (x : Counts). items_fit (lent y.boxes y.below y.items y.item_boxes glyphs 0 0 0) (of_counts x)) counted
 
@@ -137,9 +138,9 @@ module _ (s : List ℕ) (w h b : ℕ) (z y : Space) (glyphs : List ℕ) (r : Res
       stored : Stored (0 + new.commands) s y.boxes y.below y.items y.item_boxes
       stored = let c : new.commands ≡ 0 + new.commands = omega arith in subst (λ (n : ℕ). Stored n s y.boxes y.below y.items y.item_boxes) c one.0.stored
 
-      pub first_stands : (before rs : List Float) (n : ℕ) (whole_screen : Rect) → whole_screen ≡ screen_rect w h → Added 1 before 0 (whole_screen ∷ []) rs n
+      pub first_stands : {before rs : List Float} {n : ℕ} {whole_screen : Rect} → whole_screen ≡ screen_rect w h → Added 1 before 0 (whole_screen ∷ []) rs n
           → Stand w h b (on_first w h b s (first_of s)) z glyphs before rs y.items y.item_boxes (record { first = 0; commands = new.commands; n = n })
-      first_stands before rs n whole_screen is x = record {
+      first_stands {before} {rs} {n} is x = record {
         items = record { commands = new.commands; glyphs = new.glyphs; clips = new.clips };
         rects = screen_rect w h ∷ [];
         commands = commands_of s 12;
@@ -211,7 +212,7 @@ header_fits s =
 -- what is refused leaves nothing to stand
 pub none_stands : (why : Refusal) (o : Outcome) (rs : List Float) (gs ws : List ℕ) → StandsFor (Err why) o rs gs ws
 none_stands why (turned r) rs gs ws = tt
-none_stands why (drafted i d) rs gs ws = λ e. untrue e
+none_stands why (drafted i d) rs gs ws = λ e. absurd (false≢true e)
 
 module _ (s : List ℕ) (r : Result Screen Refusal) (a : r ≡ header_of s) where
   pub header_sizes : (sizes : Screen) → r ≡ Ok sizes → Sizes sizes.width sizes.height sizes.band_height

@@ -3,10 +3,10 @@ use Rattle.std.specs.Prelude.{Result}
 use Rattle.refusals.specs.declared.Fault.TheVariants.{NoRoom}
 use Rattle.refusals.specs.declared.Refusal.{Refusal}
 use Rattle.refusals.specs.Table.{refused}
-use Rattle.std.proofs.Common.{◌≡◌, ℕ, ◌*◌, ◌<◌, ◌≤◌, Bool, true, false, leb, List, map, length, take, drop, sym, ap, ◌∙◌, subst, arith}
+use Rattle.std.proofs.Common.{◌≡◌, ℕ, ◌*◌, ◌<◌, ◌≤◌, true, false, leb, List, map, length, take, drop, sym, ap, ◌∙◌, subst, arith}
+use mathlib.Core.Bool.{false≢true}
 use lib.Ieee.{Float}
 use borrow.Author.Tests.{lt-leb}
-use Rattle.lists.specs.Pick.{pick}
 use Rattle.lists.proofs.Picks.{by_le}
 use Rattle.geometry.specs.declared.Rect.{Rect}
 use Rattle.commands.specs.Bounds.{Command, bounds}
@@ -22,9 +22,6 @@ use Rattle.plans.specs.Space.{Lent}
 use Rattle.plans.specs.Answers.{items_fit, draft_fits, accepted, answer_of}
 use Rattle.drafting.specs.Drafted.{draft_in, rooms, judged, StandsIf}
 use Rattle.drafting.proofs.Words.{rects_length, rects_back}
-
-pub untrue : {P : Type 0} → false ≡ true → P
-untrue e = let z : ◌≡◌ {A = ℕ} 0 1 = ap (λ (b : Bool). pick b 1 0) e in absurd (omega arith)
 
 -- ---- the draft in scratch is that of the lists
 module _ (w h b : ℕ) (l : List Rect) (cs : List Command) (old rs : List Float) (n : ℕ) (ibs : List Float) (first count R G W : ℕ) (listed : Listed old l rs n) (long : 4 * R ≤ length old) (boxes : boxes_of (drop (4 * first) ibs) count ≡ map bounds cs) (many : count ≡ length cs) where
@@ -51,7 +48,7 @@ module _ (w h b : ℕ) (l : List Rect) (cs : List Command) (old rs : List Float)
         let u : leb (length (rects_to rs n)) R ≡ false = lt-leb (length (rects_to rs n)) R (omega (arith, rects_length rs n)) in
         let v : leb (length l) R ≡ false = lt-leb (length l) R (omega (arith, listed.count)) in
         let c : p ≡ refused NoRoom 0 = e ∙ rw u in
-        (c ∙ rw (fit, same-rects, v), λ q. untrue (sym (ap accepted c) ∙ q))
+        (c ∙ rw (fit, same-rects, v), λ q. absurd (false≢true (sym (ap accepted c) ∙ q)))
 
     pub answered : (p ≡ answer_of z (drafted i (draft w h b l cs))) × StandsIf p (draft w h b l cs) rs gs ws
     answered = by_le n R fits_small too_many

@@ -1,7 +1,7 @@
 -- The rules can be met: painters that give a shape its brush where its box touches, and a glyph its brush where a box of ink touches that lies
 -- within the glyph's. Assumes nothing.
 use mathlib.Core.Path.{◌≡◌, refl, sym, ap, ◌∙◌}
-use mathlib.Core.Bool.{Bool, true, false, ◌&&◌, true≢false}
+use mathlib.Core.Bool.{Bool, true, false, ◌&&◌, false≢true}
 use mathlib.Core.List.{List, [], ◌∷◌}
 use Prim.Native.Nat.{ℕ, ◌^◌, ◌<◌}
 use native.Mathlib.Omega.{arith}
@@ -43,19 +43,16 @@ path_brush : (n m : ℕ) (b b' : Rect) (t t' : Affine) (k l : ℕ) → T (same_p
 unfolding same_path
 path_brush n m b b' t t' k l e = eqb-true k l (is_true (eqb k l) (and_r (same_affine t t') (eqb k l) (and_r (eqb n m && same_edges b b') (same_affine t t' && eqb k l) e)))
 
-pub no_run : {A : Type 0} → false ≡ true → A
-no_run e = absurd (true≢false (sym e))
-
 fill_kin : (n : ℕ) (b : Rect) (t : Affine) (k : ℕ) (d : DrawCommand) → T (same_fill n b t k d) → Kin (FillPath n b t k) d
 unfolding same_fill
-fill_kin n b t k (FillPath m b' t' l) e = record { run = refl; brush = path_brush n m b b' t t' k l e; ink = λ z. no_run z }
+fill_kin n b t k (FillPath m b' t' l) e = record { run = refl; brush = path_brush n m b b' t t' k l e; ink = λ z. absurd (false≢true z) }
 fill_kin n b t k (StrokePath m b' t' s l) e = absurd e
 fill_kin n b t k (GlyphRun f z t' l b' i) e = absurd e
 fill_kin n b t k (Scene x g y t' b') e = absurd e
 
 stroke_kin : (n : ℕ) (b : Rect) (t : Affine) (s : Stroke) (k : ℕ) (d : DrawCommand) → T (same_stroked n b t s k d) → Kin (StrokePath n b t s k) d
 unfolding same_stroked
-stroke_kin n b t s k (StrokePath m b' t' s' l) e = record { run = refl; brush = path_brush n m b b' t t' k l (and_l (same_path n b t k m b' t' l) (same_stroke s s') e); ink = λ z. no_run z }
+stroke_kin n b t s k (StrokePath m b' t' s' l) e = record { run = refl; brush = path_brush n m b b' t t' k l (and_l (same_path n b t k m b' t' l) (same_stroke s s') e); ink = λ z. absurd (false≢true z) }
 stroke_kin n b t s k (FillPath m b' t' l) e = absurd e
 stroke_kin n b t s k (GlyphRun f z t' l b' i) e = absurd e
 stroke_kin n b t s k (Scene x g y t' b') e = absurd e
@@ -73,7 +70,7 @@ run_kin f z t k b i (Scene x g y t' b') e = absurd e
 
 scene_kin : (x g y : ℕ) (t : Affine) (b : Rect) (d : DrawCommand) → T (same_scene x g y t b d) → Kin (Scene x g y t b) d
 unfolding same_scene
-scene_kin x g y t b (Scene x' g' y' t' b') e = record { run = refl; brush = refl; ink = λ z. no_run z }
+scene_kin x g y t b (Scene x' g' y' t' b') e = record { run = refl; brush = refl; ink = λ z. absurd (false≢true z) }
 scene_kin x g y t b (FillPath m b' t' l) e = absurd e
 scene_kin x g y t b (StrokePath m b' t' s l) e = absurd e
 scene_kin x g y t b (GlyphRun f z t' l b' i) e = absurd e
@@ -187,7 +184,7 @@ module _ (w h : ℕ) (wl : w < 2 ^ 53) (hl : h < 2 ^ 53) (ink : Key → Rect) (i
     equals = equals;
     untouched = untouched;
     fills = λ c d mc md e px s k. let n = fills_kin c.draw d.draw (holds _ e) in
-        paints c d px k n.1.run (λ r. no_run (sym n.0 ∙ r))
+        paints c d px k n.1.run (λ r. absurd (false≢true (sym n.0 ∙ r)))
         (λ r. shapes c d px k n.1 (part_touches px.p px.q (omega (arith, px.across)) (omega (arith, px.down)) (bounds c) (bounds d) mc.box md.box s));
     glyph_by_glyph = λ c m r px k. rw r;
     by_value = λ c d mc md r s g j x y e px k. mark_same (key_of c g) (key_of d j) (holds _ e) px k;

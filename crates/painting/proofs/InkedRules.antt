@@ -1,6 +1,6 @@
 -- The painters of `Inked` keep the rules over commands whose glyphs have their ink within the glyphs' boxes. Assumes nothing.
 use mathlib.Core.Path.{◌≡◌, refl, sym, ap, ◌∙◌}
-use mathlib.Core.Bool.{Bool, true, false, ◌&&◌}
+use mathlib.Core.Bool.{Bool, true, false, ◌&&◌, false≢true}
 use mathlib.Core.List.{List, [], ◌∷◌}
 use Prim.Native.Nat.{ℕ, ◌^◌, ◌<◌}
 use native.Mathlib.Omega.{arith}
@@ -27,7 +27,7 @@ use Rattle.index_words.specs.Painting.{paint_all}
 use Rattle.painting.specs.Painters.{Pixel, is_run, Key, key_of, same_key, Rules}
 use Rattle.painting.specs.Inked.{shape, mark, text, paint}
 use Rattle.painting.proofs.Keys.{key_parts, same_ink, key_of_parts}
-use Rattle.painting.proofs.Examples.{Kin, no_run, drawing_kin, fills_kin}
+use Rattle.painting.proofs.Examples.{Kin, drawing_kin, fills_kin}
 
 -- ---- the painters: `ink` is any box of a key that is the same, to the pixel, for keys equal by value; asked of keys that fit alone
 module _ (w h : ℕ) (wl : w < 2 ^ 53) (hl : h < 2 ^ 53) (ink : Key → Rect) (Fit : Key → Type 0) (ink_same : (j k : Key) → Fit j → Fit k → T (same_key j k) → (p q : ℕ) → touches (ink j) p q ≡ touches (ink k) p q) where
@@ -112,7 +112,7 @@ module _ (w h : ℕ) (wl : w < 2 ^ 53) (hl : h < 2 ^ 53) (ink : Key → Rect) (F
     equals = equals;
     untouched = untouched;
     fills = λ c d mc md e px s k. let n = fills_kin c.draw d.draw (holds _ e) in
-        paints c d px k n.1.run (λ r. no_run (sym n.0 ∙ r))
+        paints c d px k n.1.run (λ r. absurd (false≢true (sym n.0 ∙ r)))
         (λ r. shapes c d px k n.1 (part_touches px.p px.q (omega (arith, px.across)) (omega (arith, px.down)) (bounds c) (bounds d) mc.box md.box s));
     glyph_by_glyph = λ c m r px k. rw r;
     by_value = λ c d mc md r s g j x y e px k. mark_same (key_of c g) (key_of d j) (fit_at c mc g x) (fit_at d md j y) (holds _ e) px k;

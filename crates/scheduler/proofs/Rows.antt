@@ -65,8 +65,11 @@ pub record Banded (w h b : ℕ) (l : List DeviceRegion) (j : ℕ) (work : List �
   pub source : m ≤ length work
   pub regions : map from_yx (take m work) ≡ band_regions (band_from w h b (j * b)) l
 
-pub banded : {w h b j m : ℕ} {l : List DeviceRegion} {work : List ℕ} → j < row_count h b → m ≤ length work → (band : DeviceRegion) → band ≡ band_from w h b (j * b) → map from_yx (take m work) ≡ band_regions band l → Banded w h b l j work m
-banded {l = l} g k band e r = record { on = g; source = k; regions = r ∙ ap (λ t. band_regions t l) e }
+pub banded : {w h b j e k m n : ℕ} {l : List DeviceRegion} {work : List ℕ} {band : DeviceRegion} → e ≡ row_count h b → j < e → n ≤ k → length work ≡ k → band ≡ band_from w h b (j * b) → (m ≤ n) × (map from_yx (take m work) ≡ band_regions band l) → Banded w h b l j work m
+banded {l = l} end on room same band r = record { on = omega arith; source = omega (arith, r.0); regions = r.1 ∙ ap (λ t. band_regions t l) band }
+
+pub taken : {w h b j m : ℕ} {l : List DeviceRegion} {work : List ℕ} → Banded w h b l j work m → length (take m work) ≡ m
+taken {m = m} {work = work} n = length-take-le m work n.source
 
 pub going_start : (w h b : ℕ) (l : List DeviceRegion) (old : List ℕ) → Sizes w h b → All Fit l → Going w h b l old old 0 0 0
 unfolding bands_to words_of pixels_of
@@ -97,7 +100,7 @@ module _ {w h b : ℕ} {l : List DeviceRegion} {old out : List ℕ} {j count pix
 
   module _ {work : List ℕ} {m : ℕ} (n : Banded w h b l j work m) where
     m_is : m ≡ length (band_regions (band_from w h b (j * b)) l)
-    m_is = sym (length-map (take m work) from_yx ∙ length-take-le m work n.source) ∙ ap length n.regions
+    m_is = sym (length-map (take m work) from_yx ∙ taken n) ∙ ap length n.regions
 
     -- a band has no more regions than the screen has columns
     pub m_few : m ≤ 32768
@@ -105,7 +108,7 @@ module _ {w h b : ℕ} {l : List DeviceRegion} {old out : List ℕ} {j count pix
 
     -- nor more than 2 ^ 47 pixels
     pub p_few : (p : ℕ) → p ≡ pixels_of (map from_yx (take m work)) → p ≤ 140737488355328
-    p_few p e = omega (arith, e, pixels_most (take m work), length-take-le m work n.source, m_few)
+    p_few p e = omega (arith, e, pixels_most (take m work), taken n, m_few)
 
     one_more : bands_to w h b l (j + 1) ≡ bands_to w h b l j ++ map from_yx (take m work)
     one_more = bands_next w h b l j ∙ ap (λ t. bands_to w h b l j ++ t) (sym n.regions)
