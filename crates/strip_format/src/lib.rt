@@ -161,6 +161,7 @@ fn floats_inside<const N: usize>(s: &[u8], at: usize) -> [f64; N]
     floats_at::<N>(s, at)
 }
 
+// A box and an affine are read in one line each, here and below, by the readers above: each has the format's own definition in its contract.
 pub fn rect_at(s: &[u8], at: usize) -> Rect
     ensures { result ≡ Format.rect_at s.now at }
 {
