@@ -57,7 +57,7 @@ pub fn candidates<'a>(screen: Screen, y: u32, words: &'a [u32]) -> &'a [u32]
     }
 }
 
-// The number of the refusal; 0 where there is none, as callers in C take it.
+// The number of the refusal alone; 0 where there is none. `find` says it with the row.
 pub fn refusal(screen: Screen, y: u32, words: &[u32]) -> u32
     ensures { result ≡ Table.refusal screen.width screen.height screen.band_height y words.now }
 {

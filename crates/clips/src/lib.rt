@@ -59,17 +59,20 @@ pub fn same_clips(boxes: &[f64], below: &[u64], one: u64, other: u64) -> bool
     requires { Chains.Rooted boxes.now below.now one other }
     ensures { result ≡ same_clips (Chains.chain boxes.now below.now one) (Chains.chain boxes.now below.now other) }
 {
-    // A clip names the one below it by its number, since lent space holds no pointers.
+    // Document 01 names the form: a labelled loop over both chains, broken off at the first unequal level. A clip names the one below it by its
+    // number, since lent space holds no pointers.
     let mut x = one as usize;
     let mut y = other as usize;
-    while x != 0 && y != 0 {
+    'walk: loop {
+        if x == 0 || y == 0 {
+            break 'walk x == 0 && y == 0;
+        }
         let clip = rect_words::rect_at(boxes, 8 * (x - 1));
         let other_clip = rect_words::rect_at(boxes, 8 * (y - 1));
         if !clip.same_edges(other_clip) {
-            return false;
+            break 'walk false;
         }
         x = below[x - 1] as usize;
         y = below[y - 1] as usize;
     }
-    x == 0 && y == 0
 }

@@ -18,8 +18,8 @@ pub fn kind_at(s: &[u8], at: usize) -> Option<Kind>
     (kind.length() <= s.len() - at).then_some(kind)
 }
 
-// Whether a command of this kind stands whole at an offset. Where the kind is written in the call one comparison of a byte is left of it, which
-// `kind_at` with `==` takes several for.
+// Whether a command of this kind stands whole at an offset. Where the kind is a constant of the caller it compiles to one comparison of the byte,
+// and `kind_at(..) == Some(kind)` to several.
 pub fn stands(s: &[u8], at: usize, kind: Kind) -> bool
     ensures whole { result ≡ true → kind_at s.now at ≡ Some kind }
     ensures else_not { result ≡ false → kind_at s.now at ≡ Some kind → ⊥ }

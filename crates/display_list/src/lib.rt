@@ -1,5 +1,5 @@
 // Dew's `DisplayList` as a state by value over lent space: what is pushed is stored where there is room and
-// counted everywhere, and each step hands the state back. The slices are those that C lends, one by one: no struct stands in them.
+// counted everywhere, and each step hands the state back. The slices are those that C lends, one by one: no struct holds them.
 #![tactic(auto)]
 
 ghost use Rattle.std.specs.Prelude.{◌≡◌, ◌*◌, ◌^◌, ◌≤◌, ◌<◌, length};

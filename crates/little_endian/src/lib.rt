@@ -47,6 +47,7 @@ fn bytes_at<const N: usize>(s: &[u8], at: usize) -> [u8; N]
     }
 }
 
+// A reader for each type, here and below: std has `from_le_bytes` at each by itself, and it is no trait's.
 #[tactic(auto, using(crate::proofs::Read::u16_read))]
 pub fn u16_at(s: &[u8], at: usize) -> u16
     ensures { result ≡ u16_at s.now at }

@@ -31,6 +31,7 @@ fn finite_f32(s: &[u8], at: usize) -> bool
     little_endian::finite32(little_endian::u32_at(s, at))
 }
 
+// Each kind's floats are the format's own row of places, with its own definition, here and below.
 #[tactic(auto, unfolding(crate::specs::Operands::finite_stroke))]
 fn finite_stroke(s: &[u8], at: usize) -> bool
     requires { at + 124 < 2 ^ 64 }
@@ -86,6 +87,7 @@ fn operands_inside(s: &[u8], at: usize, kind: Kind) -> Result<(), Fault>
 }
 
 // Whether the operands of the command at an offset pass, by its byte, or what is wrong with them. A byte that is no command's has none.
+// Not by a `Kind`, which would ask more of callers.
 pub fn operands(s: &[u8], at: usize, byte: u8) -> Result<(), Fault>
     ensures { result ≡ Operands.operands_at s.now at byte }
 {

@@ -14,7 +14,7 @@ use strip::{Cursor, Step};
 
 // The strip at an offset, recorded behind so many clips and commands.
 // The four lent slices stay parameters, here and below: tried as fields of a struct, and the proof doesn't close, since a call
-// that lends several `&mut` fields isn't covered.
+// that lends several fields which are `&mut` slices themselves isn't covered.
 fn record_strip(
     s: &[u8],
     at: usize,

@@ -135,6 +135,7 @@ impl ListSpace<'_> {
         self.items[2 * i] as usize
     }
 
+    // The word behind it, with a definition of its own.
     fn clip_number_at(self, i: usize) -> u64
         requires { 2 * i + 2 ≤ length self.items.now }
         ensures { result ≡ clip_number_at self.entry.items.now i }

@@ -1,4 +1,4 @@
-// Reads a strip: a cursor by value, a step for each command, and the number and position of the first refusal.
+// Reads a strip: a cursor by value, a step for each command, and the first refusal.
 #![tactic(auto)]
 
 ghost use Rattle.std.specs.Prelude.{◌≡◌, true, ◌+◌, ◌≤◌, ◌<◌, ◌^◌, length};
@@ -320,7 +320,7 @@ pub fn take_step(s: &[u8], st: Cursor) -> Result<Step, Refusal>
     if s.len() - at < kind.length() {
         return Err(Fault::CutOff.at(at));
     }
-    // A match, since `?` alone could not say where the fault is.
+    // A `match`: `?` alone could not say where the fault is, and `map_err` would be handed the place in a closure.
     match operand_checks::operands(s, at, byte) {
         Ok(()) => settle(effect_of(s, st, kind)?),
         Err(fault) => Err(fault.at(at)),

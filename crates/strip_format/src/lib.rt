@@ -71,7 +71,7 @@ impl Kind {
     }
 }
 
-// The length of a command with its operands, by its byte, whatever it is; 1 for bytes that are no command's.
+// The length of a command with its operands, by its byte; 1 for bytes that are no command's. Not by a `Kind`, which would ask more of callers.
 pub fn length_of(byte: u8) -> usize
     ensures { result ≡ Format.length_of byte }
 {
@@ -106,7 +106,8 @@ pub fn rect_offset(at: usize, kind: Kind) -> usize
     }
 }
 
-// The N f64 from an offset on, as many as a box or an affine has. By itself, so that what calls it only for floats that are not finite stays small.
+// The N f64 from an offset on, as many as a box or an affine has. By itself, so that what calls it only for floats that are not finite stays small. A
+// loop, for `floats_finite`'s reason.
 #[inline(never)]
 fn floats_at<const N: usize>(s: &[u8], at: usize) -> [f64; N]
     requires { N ≤ 6 }
@@ -206,7 +207,7 @@ pub fn affine_inside(s: &[u8], at: usize) -> Affine
     Affine::from(floats_inside(s, at))
 }
 
-// Whether the f64 at an offset is below 2^500 in size, by its exponent.
+// Whether the f64 at an offset is below 2^500 in size, by its exponent: another bound than `finite64`'s, for floats that stand in bytes.
 fn near_at(s: &[u8], at: usize) -> bool
     requires { at + 8 ≤ length s.now }
     ensures { result ≡ ltb (u64_at s.now at % 2 ^ 63) near_bits }
@@ -269,6 +270,7 @@ pub fn stroke_at(s: &[u8], at: usize) -> Stroke
     }
 }
 
+// A FILL and a STROKE by themselves, and the others below: each is the format's own row of places, with its own definition.
 fn fill_at(s: &[u8], at: usize) -> DrawCommand
     requires { at + 97 ≤ length s.now }
     ensures { result ≡ Format.fill_at s.now at }
