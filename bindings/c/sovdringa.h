@@ -50,7 +50,7 @@ enum sovdringa_number {
     SOVDRINGA_BAD_BOX = 9,
     /* Commands, glyphs, clips, rectangles, regions or index words exceed the space lent. Position 0. */
     SOVDRINGA_NO_SPACE = 10,
-    /* From sovdringa_candidates alone: the region lies below the last band row, or the words are no index. */
+    /* From sovdringa_candidates alone: the region lies below the last band row, or the words are no index. Position 0. */
     SOVDRINGA_NO_ROW = 11
 };
 

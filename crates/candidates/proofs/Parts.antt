@@ -1,5 +1,5 @@
 -- A part that is found lies within the words; and the number tells whether one is found. Assumes nothing.
-use mathlib.Core.Path.{◌≡◌, refl, sym, subst, ◌∙◌}
+use mathlib.Core.Path.{◌≡◌, refl, sym, subst, ap, ◌∙◌}
 use mathlib.Core.Bool.{Bool, true, false, ◌||◌, ◌&&◌, not}
 use Prim.Native.Nat.{ℕ, ◌+◌, ◌-◌, ◌/◌, ◌≤◌, ◌<◌}
 use mathlib.Core.List.{List}
@@ -20,7 +20,7 @@ use Rattle.refusals.proofs.Numbers.{number_positive}
 use Rattle.screen.specs.declared.Screen.{Screen}
 use Rattle.screen.specs.Sizes.{size_fits, fits}
 use Rattle.candidates.specs.declared.Part.{Part}
-use Rattle.candidates.specs.Table.{bad_size, bad_sizes, bad_row, part, find_row, find, number_of, refusal}
+use Rattle.candidates.specs.Table.{bad_size, bad_sizes, bad_row, part, find_row, find, number_of, position_of, refusal}
 
 -- a size is refused where it does not fit
 size_refused : (n : ℕ) → bad_size n ≡ not (size_fits n)
@@ -78,6 +78,16 @@ pub part_within : (width height band y : ℕ) (words : List ℕ) {x : Result Par
 unfolding find
 part_within width height band y words {p = p} e h =
     row_within (row_count height band) (y / band) p words (found (bad_sizes width height band) Size p _ (sym e ∙ h)).1
+
+-- ---- the position
+placed : (t : Bool) (f : Fault) (x : Result Part Refusal) → position_of x ≡ 0 → position_of (pick t (refused f 0) x) ≡ 0
+placed true f x e = refl
+placed false f x e = e
+
+-- a row that is found, or refused, is at 0
+pub row_at_start : (rows r : ℕ) (words : List ℕ) {x : Result Part Refusal} → x ≡ find_row rows r words → position_of x ≡ 0
+unfolding find_row
+row_at_start rows r words e = ap position_of e ∙ placed (bad_row rows r words) NoRow _ refl
 
 -- ---- the number
 abbrev Tells : Result Part Refusal → Type 0

@@ -48,5 +48,10 @@ abbrev pub number_of : Result Part Refusal → ℕ
 number_of (Ok p) = 0
 number_of (Err why) = number why.fault
 
+-- and its position: 0 with a row, and with every refusal that `find` gives
+abbrev pub position_of : Result Part Refusal → ℕ
+position_of (Ok p) = 0
+position_of (Err why) = why.position
+
 abbrev pub refusal : ℕ → ℕ → ℕ → ℕ → List ℕ → ℕ
 refusal width height band y words = number_of (find width height band y words)

@@ -36,9 +36,10 @@ fn find_row(row_count: usize, row: usize, words: &[u32]) -> Result<Part, Refusal
     })
 }
 
-// Where the words have the row of region y.
+// Where the words have the row of region y, or why there is none; its position is 0 either way.
 pub fn find(screen: Screen, y: u32, words: &[u32]) -> Result<Part, Refusal>
-    ensures { result ≡ Table.find screen.width screen.height screen.band_height y words.now }
+    ensures row { result ≡ Table.find screen.width screen.height screen.band_height y words.now }
+    ensures position { Table.position_of result ≡ 0 }
 {
     if !screen.fits() {
         return Err(Fault::Size.at(0));

@@ -6,14 +6,14 @@ use mathlib.Core.Bool.{not}
 use mathlib.Core.Path.{sym, ap, ◌∙◌}
 use Rattle.lists.proofs.Picks.{pick_true, pick_false}
 use Rattle.screen.proofs.Laws.{sizes_of}
-use Rattle.candidates.proofs.Parts.{sizes_refused}
+use Rattle.candidates.proofs.Parts.{sizes_refused, row_at_start}
 use Rattle.candidates.specs.Table.{find, find_row}
 use native.Mathlib.Omega.{arith}
 use Rattle.candidates.proofs.find.Goals as goal
 
-pub returns-then-not-fits : goal.returns-then-not-fits
+pub returns-then-not-fits-clause-row : goal.returns-then-not-fits-clause-row
 unfolding find
-returns-then-not-fits c = ap Err c.at.ensures ∙ sym (pick_true _ _ _ (sizes_refused _ ∙ ap not (sym c.fits.ensures ∙ c.if-not-fits.true)))
+returns-then-not-fits-clause-row c = ap Err c.at.ensures ∙ sym (pick_true _ _ _ (sizes_refused _ ∙ ap not (sym c.fits.ensures ∙ c.if-not-fits.true)))
 
 pub nonzero_div-row : goal.nonzero_div-row
 nonzero_div-row c = let s = sizes_of c.args.screen (sym c.fits.ensures ∙ c.if-not-fits.false) in omega (arith, s.some_band)
@@ -26,6 +26,9 @@ find_row-requires c =
     let s = sizes_of c.args.screen (sym c.fits.ensures ∙ c.if-not-fits.false) in
     omega (arith, c.band_count.ensures, s.height_most, s.band_most, div-le_self (c.args.screen.height + (c.args.screen.band_height - 1)) c.args.screen.band_height)
 
-pub returns : goal.returns
+pub returns-clause-row : goal.returns-clause-row
 unfolding find
-returns c = c.find_row.ensures ∙ ap (λ (k : ℕ). find_row k (c.args.y / c.args.screen.band_height) c.args.words.now) c.band_count.ensures ∙ sym (pick_false _ _ _ (sizes_refused _ ∙ ap not (sym c.fits.ensures ∙ c.if-not-fits.false)))
+returns-clause-row c = c.find_row.ensures ∙ ap (λ (k : ℕ). find_row k (c.args.y / c.args.screen.band_height) c.args.words.now) c.band_count.ensures ∙ sym (pick_false _ _ _ (sizes_refused _ ∙ ap not (sym c.fits.ensures ∙ c.if-not-fits.false)))
+
+pub returns-clause-position : goal.returns-clause-position
+returns-clause-position c = row_at_start _ _ _ c.find_row.ensures
