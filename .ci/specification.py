@@ -32,7 +32,6 @@ CONTRACTS = [
     "crates/panels_calls/src/lib.rt",
 ]
 STATEMENTS = [
-    ("crates/plans/specs/Answers.antt", "Answered"),
     ("crates/panels/specs/Entries.antt", "EntriesAgree"),
     ("crates/panels/specs/Panels.antt", "PanelsAgree"),
     ("crates/panels/specs/Rows.antt", "SameRows"),

@@ -2,7 +2,7 @@
 #![tactic(auto)]
 
 ghost use Rattle.std.specs.Prelude.{◌≡◌, IfOk};
-ghost use Rattle.plans.specs.Answers.{answer_of, index_words, published, rect_words, region_words};
+ghost use Rattle.plans.specs.Answers.{Answered, index_words, published, rect_words, region_words};
 ghost use Rattle.plans.specs.Space.{lent_of};
 ghost use Rattle.entry_calls.specs.Lending.{at_most, lent, slices_of};
 ghost use Rattle.frame_drafts.specs.Scratch.{outcome};
@@ -86,7 +86,7 @@ impl Space {
 
     // The plan that the entry makes of its input, or its refusal.
     pub fn plan(&mut self, entry: Entry, input: &[u8]) -> Result<Plan, Refusal>
-        ensures answer { result ≡ answer_of (lent_of (slices_of self.old)) (outcome entry input.now) }
+        ensures answer { Answered (lent_of (slices_of self.old)) (outcome entry input.now) result }
         ensures rectangles { self.new.rects.items ≡ published result (rect_words (outcome entry input.now)) self.old.rects.items }
         ensures scheduled { self.new.regions.items ≡ published result (region_words (outcome entry input.now)) self.old.regions.items }
         ensures index { self.new.words.items ≡ published result (index_words (outcome entry input.now)) self.old.words.items }

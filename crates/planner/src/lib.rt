@@ -81,6 +81,7 @@ fn clear_draft(
 // The plan that the entry makes of its input: of a first frame, header and one strip; of a frame after another, header, the last accepted
 // strip and the new one. Any bytes and any lent space will do. The thirteen lent slices stay parameters: C lends them one by one, and a
 // slice of a Vec that is put in a struct, or lent through one of several `&mut` fields, loses its elements for the prover.
+#[tactic(auto, using(plans::proofs::Answers::answered))]
 pub fn plan(
     entry: Entry,
     input: &[u8],
@@ -98,7 +99,7 @@ pub fn plan(
     draft_regions: &mut [u32],
     draft_words: &mut [u32],
 ) -> Result<Plan, Refusal>
-    ensures answer { result ≡ Answers.answer_of (lent_of (slices rects.old regions.old words.old boxes.old below.old items.old item_boxes.old glyph_items.old draft_rects.old work.old spare.old draft_regions.old draft_words.old)) (outcome entry input.now) }
+    ensures answer { Answers.Answered (lent_of (slices rects.old regions.old words.old boxes.old below.old items.old item_boxes.old glyph_items.old draft_rects.old work.old spare.old draft_regions.old draft_words.old)) (outcome entry input.now) result }
     ensures rectangles { rects.new ≡ Answers.published result (Answers.rect_words (outcome entry input.now)) rects.old }
     ensures scheduled { regions.new ≡ Answers.published result (Answers.region_words (outcome entry input.now)) regions.old }
     ensures index { words.new ≡ Answers.published result (Answers.index_words (outcome entry input.now)) words.old }
