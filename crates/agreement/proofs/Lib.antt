@@ -1,4 +1,4 @@
--- Agreement goes both ways (`Agreement`), and is agreement in every field (`Fields`), of what is read with nothing assumed (`Strips`). What agrees has as many
+-- Agreement in two parts (`Agreement`) is agreement in every field (`Fields`), of what is read with nothing assumed (`Strips`). What agrees has as many
 -- items (`Counts`) and is planned alike (`Plans`).
 pub mod Agreement
 pub mod Fields

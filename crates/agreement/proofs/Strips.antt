@@ -1,6 +1,4 @@
 -- What is read from bytes: every float is of its format and no NaN, so that nothing has to be assumed. Assumes nothing.
-use mathlib.Core.Path.{refl}
-use mathlib.Core.Logic.{inl}
 use mathlib.Core.List.{List}
 use Prim.Native.Nat.{ℕ}
 use lib.Ieee.{Float}
@@ -9,8 +7,7 @@ use Rattle.lists.specs.Members.{All}
 use Rattle.lists.specs.Places.{ByPlace}
 use Rattle.lists.proofs.Members.{all_map, all_both}
 use Rattle.lists.proofs.Bools.{is_true}
-use Rattle.lists.proofs.Places.{place_with, place_self}
-use Rattle.ieee.specs.Values.{Same}
+use Rattle.lists.proofs.Places.{place_with}
 use Rattle.ieee.proofs.Rank.{finite_not_nan}
 use Rattle.commands.specs.declared.Glyph.{Glyph}
 use Rattle.commands.specs.Bounds.{Command}
@@ -18,9 +15,7 @@ use Rattle.commands.specs.Sizes.{size_of}
 use Rattle.commands.proofs.Finite.{Number, number_ordered}
 use Rattle.commands.proofs.Values.{Floats, floats_map}
 use Rattle.operand_equality.specs.Operands.{same_bits}
-use Rattle.operand_equality.specs.Fields.{edges_of, glyph_floats}
 use Rattle.equality.specs.Drawings.{equal}
-use Rattle.equality.specs.Fields.{floats_of}
 use Rattle.equality.proofs.Values.{Good}
 use Rattle.changes.proofs.Values.{Matched}
 use Rattle.strip_format.proofs.Numbers.{Single}
@@ -28,7 +23,7 @@ use Rattle.strip.specs.Reading.{commands_of}
 use Rattle.strip_laws.proofs.Numbers.{strip_numbers}
 use Rattle.strip_laws.proofs.Singles.{Singles, strip_singles}
 use Rattle.agreement.specs.Agree.{Agree, AgreeAll}
-use Rattle.agreement.specs.Fields.{SameFloats, SameGlyph, SameFields, AgreeInFields}
+use Rattle.agreement.specs.Fields.{SameFields, AgreeInFields}
 use Rattle.agreement.proofs.Agreement.{agree_parts}
 use Rattle.agreement.proofs.Fields.{Numeric, agree_fields, fields_agree}
 
@@ -44,19 +39,6 @@ numeric c f s = record {
 
 pub strip_numeric : (s : List ℕ) (at : ℕ) → All Numeric (commands_of s at)
 strip_numeric s at = all_both (Floats Number) Singles Numeric numeric (commands_of s at) (strip_numbers s at) (strip_singles s at)
-
--- what is read agrees with itself
-self_fields : (c : Command) → SameFields c c
-self_fields c = record {
-  numbers = refl;
-  size = refl;
-  floats = place_self Same same_self (floats_of c.draw);
-  glyphs = place_self SameGlyph (λ g. record { numbers = refl; floats = place_self Same same_self (glyph_floats g) }) c.glyphs;
-  clips = place_self (λ a b. SameFloats (edges_of a) (edges_of b)) (λ b. place_self Same same_self (edges_of b)) c.clips;
-}
-  where
-    same_self : (x : Float) → Same x x
-    same_self x = inl refl
 
 module _ (s t : List ℕ) (p q : ℕ) where
   abbrev cs : List Command
@@ -78,9 +60,6 @@ module _ (s t : List ℕ) (p q : ℕ) where
       let p = agree_parts c d a in
       record { equals = is_true (equal c d) p.0; sizes = is_true (same_bits (size_of c.draw) (size_of d.draw)) p.1; floats = m.floats; others = n.floats })
       cs ds (strip_numeric s p) (strip_numeric t q)
-
-pub strip_self : (s : List ℕ) (p : ℕ) → AgreeAll (commands_of s p) (commands_of s p)
-strip_self s p = fields_strips s s p p (place_self SameFields self_fields (commands_of s p))
 
 pub agree_in_fields : AgreeInFields
 agree_in_fields = record { fields = strips_fields; agree = fields_strips }

@@ -1,13 +1,11 @@
--- Changes have no new edges: what holds of every edge of the commands' boxes and of their glyphs' boxes holds of the changed ones. Equal commands
--- have none. Assumes nothing.
-use mathlib.Core.Path.{◌≡◌}
-use mathlib.Core.Bool.{true}
+-- Changes have no new edges: what holds of every edge of the commands' boxes and of their glyphs' boxes holds of the changed ones.
+-- Assumes nothing.
 use mathlib.Core.List.{List, [], ◌∷◌}
 use lib.Ieee.{Float}
 use Rattle.lists.specs.Pick.{pick}
 use Rattle.lists.specs.Members.{All}
 use Rattle.lists.proofs.Members.{all_none, all_append}
-use Rattle.lists.proofs.Picks.{pick_true, pick_cases}
+use Rattle.lists.proofs.Picks.{pick_cases}
 use Rattle.geometry.specs.declared.Rect.{Rect}
 use Rattle.geometry.specs.Boxes.{intersect, union, positive_area}
 use Rattle.geometry.specs.Parts.{top_part, bottom_part, left_part, right_part}
@@ -18,11 +16,6 @@ use Rattle.operand_equality.specs.Operands.{same_glyph}
 use Rattle.equality.specs.Drawings.{equal, fills_alike, runs_alike_clipped}
 use Rattle.differences.specs.Differences.{with_area, rect_difference, rect_symmetric_difference}
 use Rattle.changes.specs.Changes.{changed_glyphs, changed_bounds, diff_dirty}
-
--- "Equal: nothing."
-pub equal_unchanged : (o n : Command) → equal o n ≡ true → changed_bounds o n ≡ []
-unfolding changed_bounds
-equal_unchanged o n e = pick_true (equal o n) [] _ e
 
 module _ (P : Float → Type 0) where
   -- P holds of every edge of the command's box and of its glyphs' boxes

@@ -1,9 +1,9 @@
--- What two runs leave to be painted: a remainder alone; and D3 for the boxes: where a pixel meets no box of two runs' changed glyphs, glyphs at one place are the same or touch it neither, and a glyph
+-- D3 for the boxes of two runs: where a pixel meets no box of two runs' changed glyphs, glyphs at one place are the same or touch it neither, and a glyph
 -- of a remainder does not touch it. Assumes nothing.
-use mathlib.Core.Path.{◌≡◌, refl, ap}
+use mathlib.Core.Path.{◌≡◌, refl}
 use mathlib.Core.Bool.{Bool, true, false}
 use mathlib.Core.Logic.{◌⊎◌, inl, inr}
-use mathlib.Core.List.{List, [], ◌∷◌, map}
+use mathlib.Core.List.{List, [], ◌∷◌}
 use Prim.Native.Nat.{ℕ, ◌^◌, ◌<◌}
 use Rattle.lists.specs.Pick.{pick}
 use Rattle.lists.specs.Members.{All}
@@ -16,17 +16,6 @@ use Rattle.commands.specs.declared.Glyph.{Glyph}
 use Rattle.commands.specs.Bounds.{Command, glyph_bounds}
 use Rattle.operand_equality.specs.Operands.{same_glyph}
 use Rattle.changes.specs.Changes.{changed_glyphs}
-
--- ---- a remainder alone
-pub only_new : (o n : Command) (hs : List Glyph) → changed_glyphs o [] n hs ≡ map (glyph_bounds n) hs
-unfolding changed_glyphs
-only_new o n [] = refl
-only_new o n (h ∷ hs) = ap (λ z. glyph_bounds n h ∷ z) (only_new o n hs)
-
-pub only_old : (o n : Command) (gs : List Glyph) → changed_glyphs o gs n [] ≡ map (glyph_bounds o) gs
-unfolding changed_glyphs
-only_old o n [] = refl
-only_old o n (j ∷ gs) = ap (λ z. glyph_bounds o j ∷ z) (only_old o n gs)
 
 -- ---- D3
 module _ (p q : ℕ) (o n : Command) where

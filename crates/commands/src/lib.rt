@@ -118,28 +118,4 @@ impl DrawCommand {
             | DrawCommand::Scene { transform, .. } => transform,
         }
     }
-
-    // The box before the transform. `united` is the union of the glyph boxes and serves a run with glyphs
-    // alone.
-    pub fn local_bounds(self, united: Rect) -> Rect
-        ensures { result ≡ Bounds.local_with self united }
-    {
-        match self {
-            DrawCommand::FillPath { bounds, .. } | DrawCommand::Scene { bounds, .. } => bounds,
-            DrawCommand::StrokePath { bounds, stroke, .. } => {
-                let inflation = stroke_bounds_inflation(stroke);
-                bounds.inflate(inflation, inflation)
-            }
-            DrawCommand::GlyphRun { bounds, glyphs, .. } => {
-                if glyphs == 0 { bounds } else { united }
-            }
-        }
-    }
-
-    // The transformed box before clipping; none where a corner is not finite.
-    pub fn try_bounds(self, united: Rect) -> Option<Rect>
-        ensures { result ≡ Bounds.try_with self united }
-    {
-        self.transform().try_transform(self.local_bounds(united))
-    }
 }

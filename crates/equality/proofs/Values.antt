@@ -28,7 +28,7 @@ use Rattle.commands.specs.Strokes.{stroke_bounds_inflation}
 use Rattle.commands.specs.Bounds.{Command, transform_of, united, local_bounds, bounds, glyph_bounds}
 use Rattle.commands.proofs.Values.{Entries, DrawFloats, Floats, SameStroke, inflation_same, SameBoxes, SameInk, united_same, bounds_same, glyph_bounds_same}
 use Rattle.operand_equality.specs.Operands.{same_affine, join_code, same_cap, same_stroke, same_bits, same_glyph, equal_glyph, same_path, equal_glyphs, same_clips}
-use Rattle.equality.specs.Drawings.{same_fill, same_stroked, same_run, same_scene, run_alike, same_drawing, runs_alike, equal, runs_alike_clipped}
+use Rattle.equality.specs.Drawings.{same_fill, same_stroked, same_run, same_scene, run_alike, same_drawing, runs_alike, equal}
 
 -- the property of every float
 abbrev pub Good : Float → Type 0
@@ -191,14 +191,7 @@ module _ (c d : Command) (p : Floats Good c) (q : Floats Good d) where
       let s = drawing_same c.draw d.draw c.glyphs d.glyphs p.draw q.draw (glyphs_same c.glyphs d.glyphs p.glyphs q.glyphs k.1) k.0 in
       bounds_same c d s.0 (clips_same c.clips d.clips p.clips q.clips h.1) s.1
 
-  -- a glyph's box is the same under either of two runs alike
-  pub alike_glyphs : runs_alike_clipped c d ≡ true → (g h : Glyph) → SameBox g.bounds h.bounds → SameBox (glyph_bounds c g) (glyph_bounds d h)
-  unfolding runs_alike_clipped
-  alike_glyphs e g h s =
-      let k = and_parts (runs_alike c.draw d.draw) (same_clips c.clips d.clips) e in
-      glyph_bounds_same c d (runs_same c.draw d.draw p.draw q.draw k.0) (clips_same c.clips d.clips p.clips q.clips k.1) g h s
-
-  -- and under either of two equal commands
+  -- a glyph's box is the same under either of two equal commands
   pub equal_glyph_bounds : equal c d ≡ true → (g h : Glyph) → SameBox g.bounds h.bounds → SameBox (glyph_bounds c g) (glyph_bounds d h)
   unfolding equal
   equal_glyph_bounds e g h s =

@@ -1,11 +1,10 @@
 -- Boxes by the ranks of their edges: whatever is said of edges becomes arithmetic. Assumes nothing.
-use Rattle.std.proofs.Common.{◌≡◌, ◌<◌, ◌≤◌, min, max, T, ◌⊎◌, sym, ap, ◌∙◌, inl, inr, arith}
+use Rattle.std.proofs.Common.{◌≡◌, ◌<◌, min, max, T, ◌∙◌}
 use lib.Ieee.{Float, lt}
 use lib.Ieee.Fits.{and_l, and_r}
 use Rattle.ieee.proofs.Rank.{rank, ordered, lt_ranks, ranks_lt}
 use Rattle.floats.specs.Order.{larger, smaller}
-use Rattle.floats.proofs.Orders.{larger_either, smaller_either, larger_rank, smaller_rank, larger_ordered, smaller_ordered, larger_first, larger_second, smaller_first, smaller_second}
-use Rattle.lists.proofs.Picks.{le_or_lt}
+use Rattle.floats.proofs.Orders.{larger_either, smaller_either, larger_rank, smaller_rank, larger_ordered, smaller_ordered}
 use Rattle.geometry.specs.declared.Rect.{Rect}
 use Rattle.geometry.specs.Boxes.{intersect, union, positive_area}
 use Rattle.std.proofs.lemmas.Bool.{and_from}
@@ -82,23 +81,3 @@ module _ (a b c d : Float) (p : T (ordered a)) (q : T (ordered b)) (r : T (order
 
   pub high_rank : rank (high_of a b c d) ≡ max (min (rank c) (rank d)) (max (rank a) (rank b))
   high_rank = larger_rank (smaller c d) (larger a b) cut_ordered low_ordered ∙ (λ i. max (smaller_rank c d r s i) (low_rank i))
-
-  -- cutting once more by the second interval changes nothing
-  pub low_again : low_of (low_of a b) b ≡ low_of a b
-  low_again = larger_first (low_of a b) b low_ordered q (let h = low_rank in omega arith)
-
-  pub high_again : high_of (low_of a b) b (high_of a b c d) d ≡ high_of a b c d
-  high_again = ap (λ (z : Float). larger (smaller (high_of a b c d) d) z) low_again ∙ ⊎_cases (le_or_lt (rank (high_of a b c d)) (rank d))
-    where
-      ⊎_cases : (rank (high_of a b c d) ≤ rank d) ⊎ (rank d < rank (high_of a b c d)) → larger (smaller (high_of a b c d) d) (low_of a b) ≡ high_of a b c d
-      ⊎_cases (inl h) = ap (λ (z : Float). larger z (low_of a b)) (smaller_first (high_of a b c d) d high_ordered s h) ∙ larger_first (high_of a b c d) (low_of a b) high_ordered low_ordered (let k = high_rank in let l = low_rank in omega arith)
-      ⊎_cases (inr h) = ap (λ (z : Float). larger z (low_of a b)) (smaller_second (high_of a b c d) d high_ordered s h) ∙ larger_second d (low_of a b) s low_ordered (let k = high_rank in let l = low_rank in omega arith) ∙ sym (larger_second (smaller c d) (low_of a b) cut_ordered low_ordered (let k = high_rank in let l = low_rank in let m = smaller_rank c d r s in omega arith))
-
--- intersecting twice with one box is intersecting once, also where that box is reversed
-pub intersect_twice : (a b : Rect) → Ordered a → Ordered b → intersect (intersect a b) b ≡ intersect a b
-intersect_twice a b p q = λ i. record {
-  x0 = low_again a.x0 b.x0 a.x1 b.x1 p.x0 q.x0 p.x1 q.x1 i;
-  y0 = low_again a.y0 b.y0 a.y1 b.y1 p.y0 q.y0 p.y1 q.y1 i;
-  x1 = high_again a.x0 b.x0 a.x1 b.x1 p.x0 q.x0 p.x1 q.x1 i;
-  y1 = high_again a.y0 b.y0 a.y1 b.y1 p.y0 q.y0 p.y1 q.y1 i;
-}

@@ -4,7 +4,6 @@
 
 ghost use Rattle.std.specs.Prelude.{◌≡◌};
 ghost use Rattle.geometry.specs.Boxes as Boxes;
-ghost use Rattle.geometry.specs.Pixels as Pixels;
 
 // A box: two low edges, two high edges. It may be reversed.
 #[derive(Clone, Copy, PartialEq, Debug)]
@@ -84,29 +83,4 @@ impl Rect {
     {
         self == other
     }
-
-    // Whether the box overlaps the square of pixel (p, q) along both axes.
-    #[tactic(auto, unfolding(crate::specs::Pixels::meets))]
-    pub fn meets(self, p: u32, q: u32) -> bool
-        ensures { result ≡ Pixels.meets self p q }
-    {
-        spans(self.x0, self.x1, p) && spans(self.y0, self.y1, q)
-    }
-
-    // Whether the box touches pixel (p, q): it has positive area and meets it.
-    #[tactic(auto, unfolding(crate::specs::Pixels::touches))]
-    pub fn touches(self, p: u32, q: u32) -> bool
-        ensures { result ≡ Pixels.touches self p q }
-    {
-        self.positive_area() && self.meets(p, q)
-    }
-}
-
-// Whether the numbers from low to high overlap those from n to n + 1.
-#[tactic(auto, unfolding(crate::specs::Pixels::spans))]
-fn spans(low: f64, high: f64, n: u32) -> bool
-    ensures { result ≡ Pixels.spans low high n }
-{
-    let end = u64::from(n) + 1;
-    low < std::num::nearest_u64_to_f64(end) && f64::from(n) < high
 }

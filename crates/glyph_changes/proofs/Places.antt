@@ -36,15 +36,6 @@ module _ (s : List ℕ) (at n : ℕ) where
   unfolding glyphs_from
   from_end k h = let e : n - k ≡ 0 = omega arith in ap (glyphs_from s (at + 45 * k)) e
 
-  pub from_start : from 0 ≡ glyphs_from s at n
-  from_start = λ i. glyphs_from s (start i) (whole i)
-    where
-      start : at + 45 * 0 ≡ at
-      start = omega arith
-
-      whole : n - 0 ≡ n
-      whole = omega arith
-
 -- ---- the boxes of what is left of a run
 module _ (f : Glyph → Rect) (s : List ℕ) (at n : ℕ) where
   pub boxes_end : (k : ℕ) → n ≤ k → boxes_by f (from s at n k) ≡ []

@@ -121,9 +121,6 @@ finite_no_nan f b t =
 pub finite_bits : (b : ℕ) → finite (of_bits binary64 b) ≡ ltb (b % 2 ^ 63) infinity_bits
 finite_bits b = finite_pattern binary64 b
 
-pub no_nan_bits : (n : ℕ) → n % 2 ^ 63 ≤ infinity_bits → T (not (nan_bits binary64 n))
-no_nan_bits n h = subst (λ (b : Bool). T (not b)) (sym (nan_bits_above binary64 n)) (le→nltb infinity_bits (n % 2 ^ 63) h)
-
 pub bits_ordered : (b : ℕ) → b ≤ infinity_bits → T (ordered (of_bits binary64 b))
 bits_ordered b h = and_i (fits binary64 (of_bits binary64 b)) (not_nan (of_bits binary64 b)) (of_bits-fits binary64 b) (elim (eq-or-lt_of_le h) [ inl e ↦ subst (λ (n : ℕ). T (not_nan (of_bits binary64 n))) (sym e) (subst (λ (z : Float). T (not_nan z)) (sym infinity_is) tt) | inr l ↦ finite_not_nan (of_bits binary64 b) (subst (λ (z : Float). T (finite z)) (sym (read b (omega arith))) (fields_finite binary64 false (b / 2 ^ 52) (b % 2 ^ 52) (omega arith))) ])
 

@@ -2,19 +2,19 @@
 -- that every question of order becomes one of natural numbers, which `omega` answers. Assumes nothing.
 use mathlib.Core.Path.{◌≡◌, refl, sym, ap, ◌∙◌, subst}
 use mathlib.Core.Bool.{Bool, true, false, not, ◌&&◌, ◌||◌, true≢false}
-use Prim.Native.Nat.{ℕ, zero, suc, ◌+◌, ◌-◌, ◌*◌, ◌/◌, ◌%◌, ◌^◌, ◌≤◌, ◌<◌, min}
-use native.Mathlib.Nat.{le_trans, le_of_lt, le_of_eq, lt_of_lt_of_le, lt_of_le_of_lt, not-le_of_lt, mul_comm, mul_assoc, mul_right_comm, mul-one, one-mul, zero-mul, mul-pos, mul-le-mul_right, mul-lt-mul_of_pos_right, lt_of_mul-lt-mul_right, eq_of_mul-eq-mul_right, sub-add_cancel, add-mul, zero-div, le-div_iff_mul-le, mul-div_cancel}
+use Prim.Native.Nat.{ℕ, zero, suc, ◌+◌, ◌-◌, ◌*◌, ◌/◌, ◌%◌, ◌^◌, ◌≤◌, ◌<◌}
+use native.Mathlib.Nat.{le_trans, le_of_lt, le_of_eq, lt_of_lt_of_le, lt_of_le_of_lt, not-le_of_lt, mul_comm, mul_assoc, mul_right_comm, mul-one, one-mul, zero-mul, mul-pos, mul-le-mul_right, mul-lt-mul_of_pos_right, lt_of_mul-lt-mul_right, eq_of_mul-eq-mul_right, sub-add_cancel, add-mul, le-div_iff_mul-le, mul-div_cancel}
 use native.Mathlib.Omega.{arith}
 use lib.IntN.{ℤ, pos, negsuc}
 use lib.Dec.{T, leb, ltb, eqb, leb→le, ltb→lt, lt→ltb, nltb→le, eqb→eq}
 use lib.Pow.{pow-add, pow_pos, pow-lt}
-use lib.Ieee.{Float, nan, inf, fin, binary64, up, down, below, level, fits, is_nan, lt, eq, le, of_int, round, to_unsigned}
+use lib.Ieee.{Float, nan, inf, fin, binary64, up, down, below, level, fits, is_nan, lt, eq, le, of_int, round}
 use lib.Ieee.Fits.{and_l, and_r, up_pos, down_pos, of_int-fits, eq→eqb, and_i}
 use lib.Ieee.Exact.{HasValue}
 use lib.Ieee.Back.{round_whole}
 use lib.Ieee.Nearest.{div_same}
 use lib.Ieee.Scale.{finite}
-use borrow.Author.Tests.{ltb-true, ltb-false, lt-ltb, le-ltb, eq-eqb, ne_eqb, eqb-true, eqb-false}
+use borrow.Author.Tests.{ltb-true, ltb-false, lt-ltb, le-ltb, eq-eqb, ne_eqb, eqb-true}
 use Rattle.lists.proofs.Bools.{same_bool}
 
 -- A whole number p is p * unit units; every finite magnitude is below `middle` units. Both stay shut: as numerals they would swamp `omega`.
@@ -277,12 +277,6 @@ rank_eq (fin false m e) (inf false) p q = let h = magnitude_lt false m e (ordere
 rank_eq (fin s m e) (fin t n d) p q = finite_eq s m e t n d (ordered_fits (fin s m e) p) (ordered_fits (fin t n d) q)
 
 -- what passes a test is no NaN
-pub lt_left : (x y : Float) → lt x y ≡ true → T (not_nan x)
-unfolding lt
-lt_left nan y e = subst T (sym e) tt
-lt_left (inf s) y e = tt
-lt_left (fin s m d) y e = tt
-
 pub lt_right : (x y : Float) → lt x y ≡ true → T (not_nan y)
 unfolding lt
 lt_right nan nan e = subst T (sym e) tt
@@ -294,12 +288,6 @@ lt_right (fin s m d) (inf t) e = tt
 lt_right nan (fin t n g) e = tt
 lt_right (inf s) (fin t n g) e = tt
 lt_right (fin s m d) (fin t n g) e = tt
-
-pub eq_left : (x y : Float) → eq x y ≡ true → T (not_nan x)
-unfolding eq
-eq_left nan y e = subst T (sym e) tt
-eq_left (inf s) y e = tt
-eq_left (fin s m d) y e = tt
 
 -- a test, as a fact on ranks, and back
 pub lt_ranks : (x y : Float) → T (ordered x) → T (ordered y) → lt x y ≡ true → rank x < rank y
@@ -316,9 +304,6 @@ ranks_not_lt x y p q h = rank_lt x y p q ∙ le-ltb (rank x) (rank y) h
 
 pub eq_ranks : (x y : Float) → T (ordered x) → T (ordered y) → eq x y ≡ true → rank x ≡ rank y
 eq_ranks x y p q e = eqb-true (rank x) (rank y) (sym (rank_eq x y p q) ∙ e)
-
-pub not_eq_ranks : (x y : Float) → T (ordered x) → T (ordered y) → eq x y ≡ false → rank x ≡ rank y → ⊥
-not_eq_ranks x y p q e = eqb-false (rank x) (rank y) (sym (rank_eq x y p q) ∙ e)
 
 pub ranks_eq : (x y : Float) → T (ordered x) → T (ordered y) → rank x ≡ rank y → eq x y ≡ true
 ranks_eq x y p q h = rank_eq x y p q ∙ eq-eqb (rank x) (rank y) h
@@ -376,15 +361,6 @@ pub whole_ordered : (p : ℕ) → p ≤ 2 ^ 53 → T (ordered (of_int binary64 (
 unfolding of_int
 whole_ordered p h = and_i (fits binary64 (round binary64 false p 1)) (not_nan (round binary64 false p 1)) (of_int-fits binary64 (pos p)) (number_of_value (round binary64 false p 1) p (round_whole binary64 false p h))
 
-finite_of_value : (x : Float) (p : ℕ) → HasValue x false p 1 → T (finite x)
-finite_of_value nan p v = v
-finite_of_value (inf s) p v = v
-finite_of_value (fin s m e) p v = tt
-
-pub whole_finite : (p : ℕ) → p ≤ 2 ^ 53 → T (finite (of_int binary64 (pos p)))
-unfolding of_int
-whole_finite p h = finite_of_value (round binary64 false p 1) p (round_whole binary64 false p h)
-
 -- ---- the whole part, by the rank
 pub whole_part : (s : Bool) (m : ℕ) (e : ℤ) → T (fits binary64 (fin s m e)) → m * up e / down e ≡ m * scale e / unit
 whole_part s m e t = div_same (m * up e) (down e) (m * scale e) unit (down_pos e) unit_pos (sym (magnitude_law s m e t))
@@ -392,27 +368,7 @@ whole_part s m e t = div_same (m * up e) (down e) (m * scale e) unit (down_pos e
 pub middle_part : (middle + middle - middle) / unit ≡ 2 ^ 1024
 middle_part = let h : middle + middle - middle ≡ middle = omega arith in ap (λ (z : ℕ). z / unit) (h ∙ middle_is) ∙ mul-div_cancel (2 ^ 1024) unit_pos
 
-pub trunc_rank : (x : Float) → T (ordered x) → to_unsigned 64 x ≡ min ((rank x - middle) / unit) (2 ^ 64 - 1)
-unfolding to_unsigned rank
-trunc_rank nan t = absurd (and_r (fits binary64 nan) false t)
-trunc_rank (inf true) t =
-    let h : middle - middle - middle ≡ 0 = omega arith in
-    let k : (middle - middle - middle) / unit ≡ 0 = ap (λ (z : ℕ). z / unit) h ∙ zero-div unit in
-    let r : 0 ≡ min ((middle - middle - middle) / unit) (2 ^ 64 - 1) = omega arith in
-    r
-trunc_rank (inf false) t = ap (λ (z : ℕ). min z (2 ^ 64 - 1)) (sym middle_part)
-trunc_rank (fin false m e) t =
-    let h : middle + m * scale e - middle ≡ m * scale e = omega arith in
-    ap (λ (z : ℕ). min z (2 ^ 64 - 1)) (whole_part false m e (ordered_fits (fin false m e) t) ∙ ap (λ (z : ℕ). z / unit) (sym h))
-trunc_rank (fin true m e) t =
-    let h : middle - m * scale e - middle ≡ 0 = omega arith in
-    let k : (middle - m * scale e - middle) / unit ≡ 0 = ap (λ (z : ℕ). z / unit) h ∙ zero-div unit in
-    let r : 0 ≡ min ((middle - m * scale e - middle) / unit) (2 ^ 64 - 1) = omega arith in
-    r
-
 -- p is at most the whole part of x when p is at most x
 pub to_floor : (x p : ℕ) → p * unit ≤ x → p ≤ x / unit
 to_floor x p h = (le-div_iff_mul-le unit_pos).1 h
 
-pub of_floor : (x p : ℕ) → p ≤ x / unit → p * unit ≤ x
-of_floor x p h = (le-div_iff_mul-le unit_pos).0 h

@@ -29,10 +29,6 @@ Zero x = (s : Bool) × (x ≡ zero_of s)
 abbrev pub Same : Float → Float → Type 0
 Same x y = (x ≡ y) ⊎ (Zero x × Zero y)
 
-pub same_sym : (x y : Float) → Same x y → Same y x
-same_sym x y (inl p) = inl (sym p)
-same_sym x y (inr p) = inr (p.1, p.0)
-
 pub same_trans : (x y z : Float) → Same x y → Same y z → Same x z
 same_trans x y z (inl p) (inl q) = inl (p ∙ q)
 same_trans x y z (inl p) (inr q) = inr ((q.0.0, p ∙ q.0.1), q.1)

@@ -96,14 +96,6 @@ module _ (band rows : ℕ) (boxes : List Rect) (r : ℕ) where
       let z : 0 + i ≡ i = omega arith in
       subst (λ (k : ℕ). In k (places (λ b. stands_in band rows b r) 0 boxes)) z (places_has (λ b. stands_in band rows b r) 0 boxes i d h e)
 
-  -- and no other is
-  pub row_only : (i : ℕ) (d : Rect) → In i (row_list band rows boxes r) → (i < length boxes) × (stands_in band rows (get_or boxes i d) r ≡ true)
-  unfolding row_list
-  row_only i d h =
-      let z = places_only (λ b. stands_in band rows b r) 0 boxes i d h in
-      let e : i - 0 ≡ i = omega arith in
-      (omega (arith, z.1), subst (λ (j : ℕ). stands_in band rows (get_or boxes j d) r ≡ true) e z.2)
-
   -- I2: the entries of a row are below the number of commands
   pub row_within : All (λ i. i < length boxes) (row_list band rows boxes r)
   unfolding row_list

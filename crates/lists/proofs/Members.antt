@@ -50,13 +50,6 @@ module _ {A : Type 0} where
   unfolding All
   all_middle P a l r p h = all_append P l (a ∷ r) (all_left P l r h) (p, all_right P l r h)
 
-  -- and without it: the member of the middle, and the others
-  pub all_without : (P : A → Type 0) (a : A) (l r : List A) → All P (l ++ a ∷ r) → P a × All P (l ++ r)
-  unfolding All
-  all_without P a l r h =
-      let t : P a × All P r = all_right P l (a ∷ r) h in
-      (t.0, all_append P l r (all_left P l (a ∷ r) h) t.1)
-
   -- the first n members
   pub all_take : (P : A → Type 0) (n : ℕ) (l : List A) → All P l → All P (take n l)
   all_take P n l h = all_left P (take n l) (drop n l) (rw take-append-drop h)
@@ -105,14 +98,6 @@ module _ {A : Type 0} where
   any_middle P a l r = ⊎_elim
       (λ p. any_right P l (a ∷ r) (inl p))
       (λ h. ⊎_elim (λ g. any_left P l (a ∷ r) g) (λ g. any_right P l (a ∷ r) (inr g)) (any_append P l r h))
-
-  -- and without it: the member of the middle, or one of the others
-  pub any_without : (P : A → Type 0) (a : A) (l r : List A) → Any P (l ++ a ∷ r) → P a ⊎ Any P (l ++ r)
-  unfolding Any
-  any_without P a l r h = ⊎_elim
-      (λ g. inr (any_left P l r g))
-      (λ g. ⊎_elim (λ p. inl p) (λ x. inr (any_right P l r x)) g)
-      (any_append P l (a ∷ r) h)
 
   -- some member has what follows from a property of all and one of some
   pub all_any : (P Q S : A → Type 0) → ((a : A) → P a → Q a → S a) → (l : List A) → All P l → Any Q l → Any S l
@@ -191,12 +176,6 @@ module _ {A : Type 0} where
   pairs_right R [] r h = h
   pairs_right R (a ∷ l) r h = pairs_right R l r h.1
 
-  -- and those of a member of the first and one of the second
-  pub pairs_across : (R : A → A → Type 0) (l r : List A) → Pairs R (l ++ r) → All (λ a. All (R a) r) l
-  unfolding All Pairs
-  pairs_across R [] r h = tt
-  pairs_across R (a ∷ l) r h = (all_right (R a) l r h.0, pairs_across R l r h.1)
-
   -- one more member in the middle, where R goes both ways
   pub pairs_middle : (R : A → A → Type 0) → ((a b : A) → R a b → R b a) → (a : A) (l r : List A) → All (R a) (l ++ r) → Pairs R (l ++ r) → Pairs R (l ++ a ∷ r)
   unfolding All Pairs
@@ -233,12 +212,6 @@ module _ {A B : Type 0} (f : A → B) where
   unfolding Any
   any_mapped P [] = refl
   any_mapped P (a ∷ l) = ap (λ X. P (f a) ⊎ X) (any_mapped P l)
-
-  -- R holds between the values just where it does between the members' values
-  pub pairs_mapped : (R : B → B → Type 0) (l : List A) → Pairs R (map f l) ≡ Pairs (λ a b. R (f a) (f b)) l
-  unfolding Pairs
-  pairs_mapped R [] = refl
-  pairs_mapped R (a ∷ l) = λ i. all_mapped (R (f a)) l i × pairs_mapped R l i
 
   -- the value of a member is a value
   pub in_mapped : (a : A) (l : List A) → In a l → In (f a) (map f l)

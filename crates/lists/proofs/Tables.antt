@@ -1,4 +1,4 @@
--- A list that is made of a function: its length, its members, its first member, and which list it is. Assumes nothing.
+-- A list that is made of a function: its length, its members, and which list it is. Assumes nothing.
 use mathlib.Core.Path.{◌≡◌, refl, ap, ◌∙◌}
 use mathlib.Core.List.{List, [], ◌∷◌, ◌++◌}
 use Prim.Native.Nat.{ℕ, zero, suc, ◌<◌}
@@ -29,8 +29,3 @@ module _ {A : Type 0} (f : ℕ → A) where
   table_is l d e =
       let b = table_length (length l) in
       ext_get_or d _ _ b (λ i h. let g : i < length l = omega (arith, b) in table_at (length l) i d g ∙ e i g)
-
-pub table_next : {A : Type 0} (f : ℕ → A) (n : ℕ) → tabulate f (suc n) ≡ f 0 ∷ tabulate (λ (i : ℕ). f (suc i)) n
-unfolding tabulate
-table_next f zero = refl
-table_next f (suc n) = ap (λ l. l ++ (f (suc n) ∷ [])) (table_next f n)

@@ -7,17 +7,10 @@ use lib.Ieee.{Format, binary32, binary64, of_bits}
 use lib.Ieee.Scale.{finite}
 use lib.ListN.{length, get_or, get_or-eq_default}
 use Rattle.lists.proofs.Picks.{pick_same}
-use Rattle.little_endian.specs.Words.{u16_at, u32_at, u64_at, finite_or, f32_at, f64_at}
+use Rattle.little_endian.specs.Words.{u32_at, u64_at, finite_or, f32_at, f64_at}
 
 pub byte_past : (s : List ℕ) (at : ℕ) → length s ≤ at → get_or s at 0 ≡ 0
 byte_past s at p = get_or-eq_default s 0 p
-
-pub u16_past : (s : List ℕ) (at : ℕ) → length s ≤ at → u16_at s at ≡ 0
-unfolding u16_at
-u16_past s at p =
-    let a : get_or s at 0 ≡ 0 = byte_past s at p in
-    let b : get_or s (at + 1) 0 ≡ 0 = byte_past s (at + 1) (omega arith) in
-    omega arith
 
 pub u32_past : (s : List ℕ) (at : ℕ) → length s ≤ at → u32_at s at ≡ 0
 unfolding u32_at

@@ -30,7 +30,7 @@ fn record_strip(
     ensures lengths { SameLengths (space boxes.old below.old items.old item_boxes.old) (space boxes.new below.new items.new item_boxes.new) }
     ensures lists { Records s.now at clips commands (space boxes.old below.old items.old item_boxes.old) (space boxes.new below.new items.new item_boxes.new) result }
 {
-    let mut st = Cursor::start(at);
+    let mut st = strip::cursor_at(s, at);
     let mut list = ListState {
         clips,
         top: 0,

@@ -24,15 +24,6 @@ word_before ws i j b h =
     let s : j ≡ i + 3 → ⊥ = λ e. omega arith in
     simp get_or-set_other
 
-pub word_behind : (ws : List Float) (i j : ℕ) (b : Rect) → i + 4 ≤ j → get_or (put_rect ws i b) j nan ≡ get_or ws j nan
-unfolding put_rect
-word_behind ws i j b h =
-    let p : j ≡ i → ⊥ = λ e. omega arith in
-    let q : j ≡ i + 1 → ⊥ = λ e. omega arith in
-    let r : j ≡ i + 2 → ⊥ = λ e. omega arith in
-    let s : j ≡ i + 3 → ⊥ = λ e. omega arith in
-    simp get_or-set_other
-
 -- the box itself
 module _ (ws : List Float) (i : ℕ) (b : Rect) (h : i + 4 ≤ length ws) where
   word_x0 : get_or (put_rect ws i b) i nan ≡ b.x0
@@ -68,21 +59,13 @@ module _ (ws : List Float) (i : ℕ) (b : Rect) (h : i + 4 ≤ length ws) where
   pub rect_same : rect_at (put_rect ws i b) i ≡ b
   rect_same = λ k. record { x0 = word_x0 k; y0 = word_y0 k; x1 = word_x1 k; y1 = word_y1 k }
 
--- a box that ends before the stored one, or begins behind it
+-- a box that ends before the stored one
 pub rect_before : (ws : List Float) (i j : ℕ) (b : Rect) → j + 4 ≤ i → rect_at (put_rect ws i b) j ≡ rect_at ws j
 rect_before ws i j b h = λ k. record {
   x0 = word_before ws i j b (omega arith) k;
   y0 = word_before ws i (j + 1) b (omega arith) k;
   x1 = word_before ws i (j + 2) b (omega arith) k;
   y1 = word_before ws i (j + 3) b (omega arith) k;
-}
-
-pub rect_behind : (ws : List Float) (i j : ℕ) (b : Rect) → i + 4 ≤ j → rect_at (put_rect ws i b) j ≡ rect_at ws j
-rect_behind ws i j b h = λ k. record {
-  x0 = word_behind ws i j b h k;
-  y0 = word_behind ws i (j + 1) b (omega arith) k;
-  x1 = word_behind ws i (j + 2) b (omega arith) k;
-  y1 = word_behind ws i (j + 3) b (omega arith) k;
 }
 
 -- four words stored at once

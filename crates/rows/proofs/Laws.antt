@@ -1,19 +1,17 @@
 -- N4: a row of pixels lies in a band row; the rows of a box that meets a pixel hold the pixel's row. Assumes nothing.
 use mathlib.Core.Path.{◌≡◌, ap, ◌∙◌}
 use mathlib.Core.Bool.{true, false}
-use Prim.Native.Nat.{ℕ, suc, ◌+◌, ◌-◌, ◌*◌, ◌/◌, ◌%◌, ◌^◌, ◌≤◌, ◌<◌, min}
-use native.Mathlib.Nat.{mul-le-mul_right, div-div-eq-div-mul, add-div_right, le-div_iff_mul-le, div-lt_iff_lt-mul, suc-mul}
-use Rattle.std.proofs.lemmas.Grind.{div_ceil_times}
+use Prim.Native.Nat.{ℕ, ◌+◌, ◌-◌, ◌*◌, ◌/◌, ◌^◌, ◌≤◌, ◌<◌}
+use native.Mathlib.Nat.{mul-le-mul_right, div-div-eq-div-mul, add-div_right}
 use native.Mathlib.Omega.{arith}
 use lib.IntN.{ℤ}
 use lib.Dec.{T}
 use lib.Ieee.{Float, fin, up, down, lt}
 use lib.Ieee.Nearest.{div_mono}
-use Rattle.ieee.proofs.Rank.{ordered, lt_ranks, not_lt_ranks, rank_whole, whole_ordered}
-use Rattle.ieee.proofs.Values.{Same}
+use Rattle.ieee.proofs.Rank.{ordered, lt_ranks, rank_whole, whole_ordered}
 use Rattle.floats.specs.Whole.{whole, floor}
 use Rattle.floats.specs.Next.{next_down}
-use Rattle.floats.proofs.Wholes.{floor_at_most, floor_at_least, floor_same}
+use Rattle.floats.proofs.Wholes.{floor_at_most, floor_at_least}
 use Rattle.floats.proofs.Nexts.{next_down_lem}
 use Rattle.rows.specs.Rows.{row_count, row_of, final_row}
 
@@ -40,13 +38,6 @@ row_upper y b rows q t B Q e =
     let f = div_le (floor y) q b B (floor_at_most y q t (omega arith)) in
     omega arith
 
-pub row_lower : (y : Float) (b rows q : ℕ) → T (ordered y) → 0 < b → q ≤ 2 ^ 53 → q / b ≤ rows - 1 → lt y (whole q) ≡ false → q / b ≤ row_of b rows y
-row_lower y b rows q t B Q l e =
-    let r = rank_whole q Q in
-    let k = not_lt_ranks y (whole q) t (whole_ordered q Q) e in
-    let f = div_le q (floor y) b B (floor_at_least y q t (omega arith)) in
-    omega arith
-
 -- what lies above the top of a row of pixels still does, or is level with it, one value lower
 pub final_lower : (y : Float) (b rows q : ℕ) → T (ordered y) → 0 < b → q ≤ 2 ^ 53 → q / b ≤ rows - 1 → lt (whole q) y ≡ true → q / b ≤ final_row b rows y
 final_lower y b rows q t B Q l e =
@@ -60,16 +51,3 @@ final_lower y b rows q t B Q l e =
 -- a row of pixels of the screen lies in one of the rows
 pub row_below : (h b q : ℕ) → 0 < b → q < h → q / b ≤ row_count h b - 1
 row_below h b q B Q = let l = last_row h b (omega arith) B in let m = div_le q (h - 1) b B (omega arith) in omega arith
-
--- ---- equal heights lie in one row
-pub row_same : (x y : Float) (b rows : ℕ) → T (ordered x) → T (ordered y) → Same x y → row_of b rows x ≡ row_of b rows y
-row_same x y b rows s t p = ap (λ (z : ℕ). min (z / b) (rows - 1)) (floor_same x y s t p)
-
--- the code divides and rounds up
-pub count_rounded_up : (h b : ℕ) → 0 < b → h / b + min 1 (h % b) ≡ row_count h b
-count_rounded_up h b p =
-    let t = h / b + min 1 (h % b) in
-    let k = div_ceil_times h b p in
-    let low : t ≤ row_count h b = (le-div_iff_mul-le {k = b} {x = t} {y = h + (b - 1)} p).1 (omega (arith, k.1)) in
-    let high : row_count h b < suc t = (div-lt_iff_lt-mul p).1 (omega (arith, suc-mul t b, k.0)) in
-    omega arith

@@ -3,12 +3,12 @@
 use mathlib.Core.Path.{◌≡◌, refl, sym, ap, subst, ◌∙◌}
 use mathlib.Core.Bool.{Bool, true, false, ◌&&◌, true≢false}
 use mathlib.Core.List.{List, [], ◌∷◌}
-use Prim.Native.Nat.{ℕ, ◌+◌, ◌<◌}
+use Prim.Native.Nat.{ℕ, ◌+◌}
 use native.Mathlib.Omega.{arith}
 use lib.Dec.{eqb}
 use lib.ListN.{get_or}
 use lib.Ieee.{Float, binary32, to_bits}
-use borrow.Author.Tests.{eq-eqb, ne_eqb}
+use borrow.Author.Tests.{eq-eqb}
 use Rattle.std.specs.Prelude.{Some}
 use Rattle.std.proofs.lemmas.Bool.{and_parts, and_from}
 use Rattle.lists.specs.Pick.{pick}
@@ -30,7 +30,7 @@ use Rattle.clips.specs.Chains.{chain}
 use Rattle.display_list.specs.Lists.{offset_at, clip_number_at, box_at}
 use Rattle.strip_format.specs.Format.{affine_at, run_at, command_at}
 use Rattle.strip_format.proofs.Commands.{command_cases}
-use Rattle.strip_format.proofs.Lengths.{length_run, length_unknown}
+use Rattle.strip_format.proofs.Lengths.{length_run}
 use Rattle.strip_format.proofs.Numbers.{single_finite, entry_numbers}
 use Rattle.strip_laws.proofs.Alike.{command_twice}
 use Rattle.std.specs.Prelude.{Some}
@@ -79,9 +79,6 @@ case_apart i j s bs ns is ibs w v e =
     ∙ sym (pick_false _ _ _ (sym (and_off _ _ (sym (and_off _ _ z.1)))) ∙ pick_false _ _ _ (fills_off (command_at s p) d z.1) ∙ pick_false _ _ _ (sym (and_off _ _ (runs_off s p d z.0))))
 
 -- ---- a byte that is no command's
-pub whole_unknown : (s : List ℕ) (at : ℕ) → 7 < get_or s at 0 → whole_length s at ≡ 1
-unfolding whole_length
-whole_unknown s at h = pick_false _ _ _ (ne_eqb (get_or s at 0) 5 (λ e. omega arith)) ∙ length_unknown (get_or s at 0) h
 
 -- ---- a run that stands twice
 abbrev Alike : DrawCommand → DrawCommand → Type 0
@@ -144,17 +141,6 @@ module _ (i j : ℕ) (s : List ℕ) (bs : List Float) (ns is : List ℕ) (ibs : 
   case_run r v e =
       case_glyphs s bs ns (placed_at s is ibs i) (placed_at s is ibs j) (pair_of i j s bs ns is ibs w refl refl) (alike_run s (offset_at is i) (offset_at is j) r) (sym v ∙ e)
       ∙ changed_are s bs ns is ibs i j refl refl
-
-  pub run_pair : SameRun s (offset_at is i) (offset_at is j) → RunPair s bs is i j
-  run_pair r =
-      let t = w.stored in
-      record {
-        same = r;
-        items = (omega (arith, t.items, w.old), omega (arith, t.items, w.new));
-        clips = (omega (arith, t.lower i w.old, t.clips.chained.boxes), omega (arith, t.lower j w.new, t.clips.chained.boxes));
-        glyphs = (t.whole i w.old).glyphs;
-        other = (t.whole j w.new).glyphs;
-      }
 
 -- ---- both runs, once the operands of the first are read
 module _ (s : List ℕ) (bs : List Float) (is : List ℕ) (i j : ℕ) (w : RunPair s bs is i j) {n : ℕ} (u : n ≡ u16_at s (offset_at is i + 101)) where

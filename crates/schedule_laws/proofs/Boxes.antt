@@ -24,7 +24,6 @@ use Rattle.device.specs.declared.DeviceRegion.{DeviceRegion}
 use Rattle.device.specs.Region.{right, bottom, between, from_logical, has}
 use Rattle.device.proofs.Regions.{between_yes, has_meets, from_logical_same}
 use Rattle.bands.specs.Bands.{unless_nothing, regions_of}
-use Rattle.bands.proofs.Cuts.{all_regions}
 use Rattle.scheduler.specs.Schedule.{Sizes, schedule_of, schedule}
 use Rattle.schedule_laws.specs.Placed.{Covers, OnScreen, Placed, Schedulable, box_of}
 use Rattle.schedule_laws.proofs.AllBands.{schedulable, schedule_covers}
@@ -32,10 +31,6 @@ use Rattle.schedule_laws.proofs.Alike.{schedule_alike}
 use Rattle.schedule_laws.proofs.Own.{own}
 
 -- ---- the regions of boxes
-
--- they lie on the screen
-pub regions_on : (w h : ℕ) (rects : List Rect) → All (OnScreen w h) (regions_of w h rects)
-regions_on w h rects = all_regions (OnScreen w h) w h (λ r a b c d. record { some_width = a; some_height = b; across = c; down = d }) rects
 
 any_behind : (P : DeviceRegion → Type 0) (c : Option DeviceRegion) (l : List DeviceRegion) → Any P l → Any P (unless_nothing c l)
 unfolding Any

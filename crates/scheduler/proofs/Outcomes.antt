@@ -1,8 +1,8 @@
 -- What a caller of `schedule` learns from each of its answers, and from the words. Assumes nothing.
 use mathlib.Core.Path.{◌≡◌, refl, sym, ap, ◌∙◌}
 use mathlib.Core.Bool.{Bool, true, false}
-use mathlib.Core.List.{List, [], ◌∷◌, ◌++◌}
-use Prim.Native.Nat.{ℕ, zero, suc, ◌+◌, ◌*◌, ◌/◌, ◌≤◌, ◌<◌}
+use mathlib.Core.List.{List, ◌++◌}
+use Prim.Native.Nat.{ℕ, ◌*◌, ◌/◌, ◌≤◌, ◌<◌}
 use native.Mathlib.Omega.{arith}
 use borrow.Author.Tests.{leb-true, leb-false}
 use lib.Dec.{leb}
@@ -47,9 +47,3 @@ module _ (l : List DeviceRegion) (before after : List ℕ) where
   pub front_words : (count pixels : ℕ) → Listed l before count pixels after → take (4 * count) after ≡ words_of l
   front_words count pixels a = ap (take (4 * count)) a.words_are ∙ take_at (words_of l) (drop (4 * count) before) (4 * count) (words_length l ∙ ap (λ t. 4 * t) (sym a.count_is))
 
--- behind the words of i regions stand those of the others
-pub words_behind : (i : ℕ) (l : List DeviceRegion) → drop (4 * i) (words_of l) ≡ words_of (drop i l)
-unfolding words_of
-words_behind zero l = refl
-words_behind (suc i) [] = let e : 4 * suc i ≡ suc (4 * i + 3) = omega arith in rw e refl
-words_behind (suc i) (r ∷ l) = let e : 4 * suc i ≡ suc (suc (suc (suc (4 * i)))) = omega arith in rw e (words_behind i l)

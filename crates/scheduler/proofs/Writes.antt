@@ -1,26 +1,16 @@
 -- The turns of the loop that writes a band's regions as words and counts their pixels. Assumes nothing.
 use mathlib.Core.Path.{◌≡◌, refl, sym, ap, ◌∙◌}
 use mathlib.Core.List.{List, [], ◌∷◌, ◌++◌, map, append_assoc, append-nil, map-append}
-use Prim.Native.Nat.{ℕ, suc, ◌+◌, ◌-◌, ◌*◌, ◌/◌, ◌%◌, ◌≤◌, ◌<◌}
+use Prim.Native.Nat.{ℕ, ◌+◌, ◌-◌, ◌*◌, ◌/◌, ◌%◌, ◌≤◌, ◌<◌}
 use native.Mathlib.Nat.{mul-le-mul}
 use native.Mathlib.Numerals.{add-one}
 use native.Mathlib.Omega.{arith}
-use lib.ListN.{length, take, drop, get_or, set, length-append, length-map, length-drop, drop_of_length-le}
-use lib.Seq.{take_all, sets-eq, take_at, drop_at, drop-drop, take-suc, length-take-le}
+use lib.ListN.{length, take, drop, get_or, length-append, length-map, length-drop, drop_of_length-le}
+use lib.Seq.{take_all, take_at, drop_at, drop-drop, take-suc, length-take-le}
 use Rattle.device.specs.declared.DeviceRegion.{DeviceRegion}
 use Rattle.device.specs.Region.{area}
 use Rattle.bands.specs.Keys.{from_yx}
 use Rattle.scheduler.specs.Schedule.{pixels_of, region_words, words_of}
-
--- ---- one region
-
--- four words stored one after the other
-pub stored : (l : List ℕ) (i : ℕ) (r : DeviceRegion) → i + 4 ≤ length l → set (set (set (set l i r.x) (i + 1) r.y) (i + 2) r.width) (i + 3) r.height ≡ take i l ++ region_words r ++ drop (i + 4) l
-stored l i r h =
-    let a : i + 1 ≡ suc i = omega arith in
-    let b : i + 2 ≡ suc (suc i) = omega arith in
-    let c : i + 3 ≡ suc (suc (suc i)) = omega arith in
-    rw (a, b, c) (sets-eq (region_words r) l i h)
 
 -- ---- words and pixels of lists
 

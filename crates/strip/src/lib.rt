@@ -18,7 +18,7 @@ use strip_format::{GLYPH_LENGTH, Kind, RUN_LENGTH};
 
 mod reader;
 
-pub use reader::{Reader, read_behind};
+pub use reader::{Reader, cursor_at, read_behind};
 
 // What a frame may have at most: clips open at once, clips, drawing commands and glyphs.
 const MOST_DEPTH: u64 = 32;

@@ -1,6 +1,8 @@
-// A strip held together with the offset at which it is read, above the cursor's functions; and `read_behind`, for callers that have a strip and a cursor.
+// A strip held together with the offset at which it is read, above the cursor's functions; and two functions for callers that have a strip and a place in
+// it: `cursor_at`, from which strips are recorded, and `read_behind`.
 ghost use Rattle.std.specs.Prelude.{◌≡◌};
 ghost use Rattle.strip.specs.Reading as Reading;
+ghost use Rattle.strip.specs.Steps as Steps;
 
 use crate::Cursor;
 use refusals::Refusal;
@@ -32,6 +34,20 @@ impl<'a> Reader<'a> {
     {
         crate::read_strip(self.src, self.at)
     }
+
+    // The cursor at the offset, before anything is read of the strip that begins there.
+    pub fn cursor(self) -> Cursor
+        ensures { result ≡ Steps.start_at self.entry.at }
+    {
+        Cursor::start(self.at)
+    }
+}
+
+// The cursor at an offset of a strip. Every strip that is planned from is read from here, a command at a time.
+pub fn cursor_at(s: &[u8], at: usize) -> Cursor
+    ensures { result ≡ Steps.start_at at }
+{
+    Reader::new(s).moved(at).cursor()
 }
 
 // The strip behind one that was read.

@@ -53,16 +53,6 @@ module _ (s r : List ℕ) (by n : ℕ) (same : (i j : ℕ) → j ≡ by + i → 
 
 -- in bytes that stand twice
 module _ (s : List ℕ) (p q n : ℕ) (w : SameBytes s p q n) where
-  pub rect_twice : 32 ≤ n → rect_at s p ≡ rect_at s q
-  rect_twice h =
-      sym (rect_same (part s p n) s p n (part_same s p n) 0 p (omega arith) (omega arith))
-      ∙ rect_same (part s p n) s q n (part_twice s p q n w) 0 q (omega arith) (omega arith)
-
-  pub affine_twice : 48 ≤ n → affine_at s p ≡ affine_at s q
-  affine_twice h =
-      sym (affine_same (part s p n) s p n (part_same s p n) 0 p (omega arith) (omega arith))
-      ∙ affine_same (part s p n) s q n (part_twice s p q n w) 0 q (omega arith) (omega arith)
-
   pub glyph_twice : 45 ≤ n → glyph_at s p ≡ glyph_at s q
   glyph_twice h =
       sym (glyph_same_at (part s p n) s p n (part_same s p n) 0 p (omega arith) (omega arith))
@@ -72,10 +62,3 @@ module _ (s : List ℕ) (p q n : ℕ) (w : SameBytes s p q n) where
   glyphs_twice k m h =
       sym (glyphs_same (part s p n) s p n (part_same s p n) m k (p + k) refl h)
       ∙ glyphs_same (part s p n) s q n (part_twice s p q n w) m k (q + k) refl h
-
--- in a part that holds them
-pub rect_in : (s : List ℕ) (at : ℕ) → rect_at (part s at 32) 0 ≡ rect_at s at
-rect_in s at = rect_same (part s at 32) s at 32 (part_same s at 32) 0 at (omega arith) (omega arith)
-
-pub affine_in : (s : List ℕ) (at : ℕ) → affine_at (part s at 48) 0 ≡ affine_at s at
-affine_in s at = affine_same (part s at 48) s at 48 (part_same s at 48) 0 at (omega arith) (omega arith)

@@ -1,4 +1,4 @@
--- Boxes, affines and glyphs past the end: every number is 0. Assumes nothing.
+-- Boxes, strokes and glyphs past the end: every number is 0. Assumes nothing.
 use mathlib.Core.Path.{◌≡◌}
 use mathlib.Core.List.{List}
 use Prim.Native.Nat.{ℕ, ◌+◌, ◌≤◌}
@@ -10,7 +10,7 @@ use Rattle.commands.specs.declared.Join.TheVariants.{Bevel}
 use Rattle.commands.specs.declared.Cap.TheVariants.{Butt}
 use Rattle.little_endian.specs.Words.{u32_at, u64_at, f32_at, f64_at}
 use Rattle.little_endian.proofs.Past.{byte_past, u32_past, u64_past, f32_past, f64_past}
-use Rattle.strip_format.specs.Format.{rect_at, affine_at, stroke_at, join_of, cap_of, glyph_at}
+use Rattle.strip_format.specs.Format.{rect_at, stroke_at, join_of, cap_of, glyph_at}
 
 abbrev z : Float
 z = of_bits binary64 0
@@ -22,16 +22,6 @@ module _ (s : List ℕ) (at : ℕ) (p : length s ≤ at) where
       let y0 : f64_at s (at + 8) ≡ z = f64_past s (at + 8) (omega arith) in
       let x1 : f64_at s (at + 16) ≡ z = f64_past s (at + 16) (omega arith) in
       let y1 : f64_at s (at + 24) ≡ z = f64_past s (at + 24) (omega arith) in
-      cc
-
-  pub affine_past : affine_at s at ≡ record { a = z; b = z; c = z; d = z; e = z; f = z }
-  affine_past =
-      let a : f64_at s at ≡ z = f64_past s at p in
-      let b : f64_at s (at + 8) ≡ z = f64_past s (at + 8) (omega arith) in
-      let c : f64_at s (at + 16) ≡ z = f64_past s (at + 16) (omega arith) in
-      let d : f64_at s (at + 24) ≡ z = f64_past s (at + 24) (omega arith) in
-      let e : f64_at s (at + 32) ≡ z = f64_past s (at + 32) (omega arith) in
-      let f : f64_at s (at + 40) ≡ z = f64_past s (at + 40) (omega arith) in
       cc
 
   pub stroke_past : stroke_at s at ≡ record { width = z; join = Bevel; miter_limit = z; start_cap = Butt; end_cap = Butt; dash = 0 }

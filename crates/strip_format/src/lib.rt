@@ -162,14 +162,8 @@ fn floats_inside<const N: usize>(s: &[u8], at: usize) -> [f64; N]
     floats_at::<N>(s, at)
 }
 
-// A box and an affine are read in one line each, here and below, by the readers above: each has the format's own definition in its contract.
-pub fn rect_at(s: &[u8], at: usize) -> Rect
-    ensures { result ≡ Format.rect_at s.now at }
-{
-    Rect::from(floats_at(s, at))
-}
-
-// A box whose bytes are all there and whose floats were found to be finite: none is tested again.
+// A box and an affine are read in one line each, here and below, by the readers above: each has the format's own definition in its contract. A box whose
+// bytes are all there and whose floats were found to be finite: none is tested again.
 pub fn rect_finite(s: &[u8], at: usize) -> Rect
     requires { (at + 32 ≤ length s.now) × FourFinite s.now at }
     ensures { result ≡ Format.rect_at s.now at }
@@ -183,12 +177,6 @@ pub fn rect_inside(s: &[u8], at: usize) -> Rect
     ensures { result ≡ Format.rect_at s.now at }
 {
     Rect::from(floats_inside(s, at))
-}
-
-pub fn affine_at(s: &[u8], at: usize) -> Affine
-    ensures { result ≡ Format.affine_at s.now at }
-{
-    Affine::from(floats_at(s, at))
 }
 
 // An affine whose bytes are all there and whose floats were found to be finite.

@@ -13,8 +13,8 @@ use Rattle.geometry.proofs.Edges.{Edges}
 use Rattle.affine.specs.Affines.{try_transform}
 use Rattle.commands.specs.declared.Glyph.{Glyph}
 use Rattle.commands.specs.declared.DrawCommand.{DrawCommand}
-use Rattle.commands.specs.Bounds.{Command, transform_of, glyph_count, united, local_bounds, local_with, try_with, bounds, glyph_bounds}
-use Rattle.commands.proofs.Runs.{local_is}
+use Rattle.commands.specs.Bounds.{Command, transform_of, glyph_count, united, local_bounds, try_with, bounds, glyph_bounds}
+use Rattle.commands.proofs.Runs.{try_is_local}
 use Rattle.commands.proofs.Clips.{Upright}
 use Rattle.commands.proofs.Finite.{Number, bounds_numbers, bounds_upright, glyph_numbers, glyph_upright}
 use Rattle.strip_format.specs.Format.{rect_at, run_at, command_at, glyphs_from}
@@ -49,8 +49,7 @@ no_glyphs s at = refl
 alone_box : (s : List ℕ) (at : ℕ) (u box : Rect) → Alone s at → try_with (command_at s at) u ≡ Some box → try_transform (transform_of (command_at s at)) (local_bounds (command_at s at) (glyphs_of s at)) ≡ Some box
 alone_box s at u box alone f =
     let g : glyphs_of s at ≡ [] = ap (glyphs_from s (at + 103)) alone.none ∙ no_glyphs s (at + 103) in
-    let l : local_with (command_at s at) u ≡ local_bounds (command_at s at) [] = local_is (command_at s at) u u [] alone.none (λ h. absurd (omega arith)) in
-    ap (λ (x : Rect). try_transform (transform_of (command_at s at)) x) (ap (local_bounds (command_at s at)) g ∙ sym l) ∙ f
+    ap (λ (gs : List Glyph). try_transform (transform_of (command_at s at)) (local_bounds (command_at s at) gs)) g ∙ sym (try_is_local (command_at s at) u u [] alone.none (λ h. absurd (omega arith))) ∙ f
 
 run_is : (s : List ℕ) (at : ℕ) → get_or s at 0 ≡ 5 → at + 103 ≤ length s → command_at s at ≡ run_at s at
 unfolding command_at

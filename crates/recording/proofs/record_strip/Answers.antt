@@ -5,7 +5,7 @@ use Rattle.recording.proofs.Going.{going_start, on_passed, on_clip, on_pop, on_d
 use Rattle.recording.proofs.record_strip.Goals as goal
 
 pub loop-t-init : goal.loop-t-init
-loop-t-init c = going_start _ _ _ _ _ _ c.start-st.ensures
+loop-t-init c = going_start _ _ _ _ _ _ c.cursor_at-st.ensures
 
 pub loop-t-smaller-in-Next : goal.loop-t-smaller-in-Next
 loop-t-smaller-in-Next c = (on_passed _ _ _ _ _ _ _ _ c.loop-t.invariant _ c.in_ok-t.ensures _ _ (ap Ok c.in-Next.is) c.pass_glyphs-st.ensures).0
