@@ -15,7 +15,7 @@ use Rattle.rect_list.specs.Rects as Rects
 use Rattle.strip.specs.declared.Cursor.{Cursor}
 use Rattle.plans.specs.Drafts.{next_outcome}
 use Rattle.plans.specs.Space.{Lent}
-use Rattle.plans.specs.Answers.{rect_words}
+use Rattle.plans.specs.Answers.{rect_words_of}
 use Rattle.plans.proofs.Examples.{header, zero8, one8, two8, content, worked}
 use Rattle.agreement.specs.Agree.{agreeing}
 use Rattle.agreement.specs.Plans.{NextAgree, SamePlan}
@@ -40,12 +40,12 @@ unfolding worked ByPlace agreeing
 gone_agree z = record { sizes = refl; read = refl; other_read = refl; old_commands = (refl, tt); new_commands = tt; clips = refl }
 
 -- the one rectangle begins at 0, or at -0; all else that the two inputs get is the same
-positive_edge : get_or (rect_words (next_outcome (gone zero8))) 0 nan ≡ zero_of false
-unfolding worked Rects.words_of
+positive_edge : get_or (rect_words_of (next_outcome (gone zero8))) 0 nan ≡ zero_of false
+unfolding worked Rects.words_of_rects
 positive_edge = refl
 
-negative_edge : get_or (rect_words (next_outcome (gone minus8))) 0 nan ≡ zero_of true
-unfolding worked Rects.words_of
+negative_edge : get_or (rect_words_of (next_outcome (gone minus8))) 0 nan ≡ zero_of true
+unfolding worked Rects.words_of_rects
 negative_edge = refl
 
 gone_planned : (z : Lent) → SamePlan z (next_outcome (gone zero8)) (next_outcome (gone minus8))

@@ -21,7 +21,7 @@ use Rattle.frame.specs.Frame.{strips, header_of, first_of, both_of}
 use Rattle.plans.specs.declared.Plan.{Plan}
 use Rattle.plans.specs.Drafts.{Draft, draft, Items, Outcome, drafted, screen_rect, on_first, on_both, on_header, first_outcome, next_outcome}
 use Rattle.plans.specs.Space.{Lent}
-use Rattle.plans.specs.Answers.{items_fit, answer_of, rect_words, region_words, index_words, published}
+use Rattle.plans.specs.Answers.{items_fit, answer_of, rect_words_of, region_words_of, index_words_of, published}
 use Rattle.plans.proofs.Values.{SameDraft, draft_same, answer_same, rect_words_same}
 use Rattle.agreement.specs.Plans.{FirstAgree, NextAgree, SamePlan, SameByValue}
 use Rattle.agreement.proofs.Strips.{strips_matched}
@@ -31,7 +31,7 @@ use Rattle.agreement.proofs.Counts.{items_of, items_of_both, first_room, next_ro
 drafts_plan : (z : Lent) (i j : Items) (d e : Draft) → SameDraft d e → items_fit z i ≡ items_fit z j → SamePlan z (drafted i d) (drafted j e)
 drafts_plan z i j d e s r = record {
   answer = answer_same d e s z i j r;
-  regions = ap Schedule.words_of s.regions;
+  regions = ap Schedule.words_of_regions s.regions;
   index = s.words;
   rects = rect_words_same d.rects e.rects s.rects;
 }
@@ -79,14 +79,14 @@ same_by_value = record { first = first_plans; next = next_plans }
 
 -- ---- so every word of the output is the same over what stood there before, whether the calls are accepted or not, but for the sign of a zero edge
 module _ (z : Lent) (x y : Outcome) (p : SamePlan z x y) where
-  pub regions_published : (before : List ℕ) → published (answer_of z x) (region_words x) before ≡ published (answer_of z y) (region_words y) before
+  pub regions_published : (before : List ℕ) → published (answer_of z x) (region_words_of x) before ≡ published (answer_of z y) (region_words_of y) before
   regions_published before = λ i. published (p.answer i) (p.regions i) before
 
-  pub index_published : (before : List ℕ) → published (answer_of z x) (index_words x) before ≡ published (answer_of z y) (index_words y) before
+  pub index_published : (before : List ℕ) → published (answer_of z x) (index_words_of x) before ≡ published (answer_of z y) (index_words_of y) before
   index_published before = λ i. published (p.answer i) (p.index i) before
 
-  pub rects_published : (before : List Float) → ByPlace Same (published (answer_of z x) (rect_words x) before) (published (answer_of z y) (rect_words y) before)
-  rects_published before = subst (λ a. ByPlace Same (published (answer_of z x) (rect_words x) before) (published a (rect_words y) before)) p.answer (over (answer_of z x) (rect_words x) (rect_words y) p.rects)
+  pub rects_published : (before : List Float) → ByPlace Same (published (answer_of z x) (rect_words_of x) before) (published (answer_of z y) (rect_words_of y) before)
+  rects_published before = subst (λ a. ByPlace Same (published (answer_of z x) (rect_words_of x) before) (published a (rect_words_of y) before)) p.answer (over (answer_of z x) (rect_words_of x) (rect_words_of y) p.rects)
     where
       kept : (l : List Float) → ByPlace Same l l
       kept = place_self Same (λ f. inl refl)

@@ -9,7 +9,7 @@ use Rattle.strip.specs.Reading.{commands_of}
 use Rattle.frame.specs.Frame.{strips, header_of, first_of, both_of}
 use Rattle.plans.specs.Drafts.{Outcome, first_outcome, next_outcome}
 use Rattle.plans.specs.Space.{Lent}
-use Rattle.plans.specs.Answers.{answer_of, rect_words, region_words, index_words}
+use Rattle.plans.specs.Answers.{answer_of, rect_words_of, region_words_of, index_words_of}
 use Rattle.agreement.specs.Agree.{AgreeAll}
 
 -- ---- inputs that agree
@@ -35,10 +35,10 @@ pub record NextAgree (z : Lent) (s t : List ℕ) (old new old' new' : Cursor) : 
 pub record SamePlan (z : Lent) (x y : Outcome) : Type 0 where
   -- number, position and counts
   pub answer : answer_of z x ≡ answer_of z y
-  pub regions : region_words x ≡ region_words y
-  pub index : index_words x ≡ index_words y
+  pub regions : region_words_of x ≡ region_words_of y
+  pub index : index_words_of x ≡ index_words_of y
   -- the edges of all rectangles, in their order
-  pub rects : ByPlace Same (rect_words x) (rect_words y)
+  pub rects : ByPlace Same (rect_words_of x) (rect_words_of y)
 
 -- at either entry
 pub record SameByValue : Type 0 where

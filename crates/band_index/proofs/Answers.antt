@@ -11,7 +11,6 @@ use lib.ListN.{length, take, drop, length-append, length-drop}
 use lib.Seq.{take_at, drop_at}
 use Rattle.lists.proofs.Picks.{pick_true, pick_false, by_le}
 use Rattle.std.proofs.Common.{Some, None}
-use Rattle.band_index.specs.Boxes.{boxes_of}
 use Rattle.index_words.specs.Sizes.{Size}
 use Rattle.index_words.specs.Index.{start_of, layout, index_words}
 use Rattle.index_words.proofs.Starts.{layout_length}
@@ -21,6 +20,7 @@ use Rattle.band_index.proofs.Spans.{kept_marks}
 use Rattle.band_index.proofs.Counts.{rows_same, start_most}
 use Rattle.band_index.proofs.Turns.{fill_all}
 use Rattle.band_index.proofs.Layouts.{index_layout, index_length}
+use Rattle.rect_words.specs.Words.{boxes_to}
 
 -- ---- words that fit, and words that do not
 module _ (words : List ℕ) where
@@ -65,7 +65,7 @@ fill_end mark n rows old w F l k =
 -- ---- `build`, which has counted the entries
 module _ (band rows : ℕ) (numbers : List Float) (n : ℕ) where
   abbrev words : List ℕ
-  words = index_words band rows (boxes_of numbers n)
+  words = index_words band rows (boxes_to numbers n)
 
   module _ (entries : ℕ) (e : entries ≡ start_of (row_to (marks band rows numbers) n) rows) where
     pub words_low : n ≤ 4096 → Size rows → rows + 1 + entries < 2 ^ 32

@@ -15,7 +15,7 @@ use Rattle.geometry.specs.declared.Rect.{Rect}
 use Rattle.geometry.specs.Boxes.{intersect}
 use Rattle.commands.specs.Bounds.{clip_box, clipped}
 use Rattle.commands.proofs.Clips.{clip_first, clip_last, clipped_some}
-use Rattle.rect_words.specs.Words.{rect_at, put_rect}
+use Rattle.rect_words.specs.Words.{rect_from, put_rect}
 use Rattle.rect_words.proofs.Stores.{length_put, rect_same, rect_before}
 use Rattle.clips.specs.Chains.{clip_at, all_at, below_at, chain_from, chain, clip_rect, Chained, Clips, all_with, put_clip, Room}
 
@@ -90,7 +90,7 @@ module _ (n y : ℕ) (bs : List Float) (ns : List ℕ) (b : Rect) (c : Clips n b
   abbrev ms : List ℕ
   ms = set ns n y
 
-  kept : (i : ℕ) → i + 4 ≤ 8 * n → rect_at cs i ≡ rect_at bs i
+  kept : (i : ℕ) → i + 4 ≤ 8 * n → rect_from cs i ≡ rect_from bs i
   unfolding put_clip
   kept i h = rect_before (put_rect bs (8 * n) b) (8 * n + 4) i (all_with bs y b) (omega arith) ∙ rect_before bs (8 * n) i b h
 
@@ -106,11 +106,11 @@ module _ (n y : ℕ) (bs : List Float) (ns : List ℕ) (b : Rect) (c : Clips n b
   put_kept x l = chain_agree n bs ns cs ms c.chained put_agree x l
 
   -- the words of the new clip
-  own_word : rect_at cs (8 * n) ≡ b
+  own_word : rect_from cs (8 * n) ≡ b
   unfolding put_clip
   own_word = rect_before (put_rect bs (8 * n) b) (8 * n + 4) (8 * n) (all_with bs y b) (omega arith) ∙ rect_same bs (8 * n) b (let h = r.boxes in omega arith)
 
-  all_word : rect_at cs (8 * n + 4) ≡ all_with bs y b
+  all_word : rect_from cs (8 * n + 4) ≡ all_with bs y b
   unfolding put_clip
   all_word = rect_same (put_rect bs (8 * n) b) (8 * n + 4) (all_with bs y b) (omega (arith, r.boxes, length_put bs (8 * n) b))
 
@@ -121,10 +121,10 @@ module _ (n y : ℕ) (bs : List Float) (ns : List ℕ) (b : Rect) (c : Clips n b
   below_word = ap (λ (k : ℕ). get_or ms k 0) back ∙ get_or-set_same ns n y 0 r.numbers
 
   pub put_clip_at : clip_at cs (n + 1) ≡ b
-  put_clip_at = ap (λ (k : ℕ). rect_at cs (8 * k)) back ∙ own_word
+  put_clip_at = ap (λ (k : ℕ). rect_from cs (8 * k)) back ∙ own_word
 
   put_all_at : all_at cs (n + 1) ≡ all_with bs y b
-  put_all_at = ap (λ (k : ℕ). rect_at cs (8 * k + 4)) back ∙ all_word
+  put_all_at = ap (λ (k : ℕ). rect_from cs (8 * k + 4)) back ∙ all_word
 
   -- its chain is that of the number below, and its own box
   pub put_chain : chain cs ms (n + 1) ≡ chain bs ns y ++ (b ∷ [])

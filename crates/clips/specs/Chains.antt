@@ -5,13 +5,13 @@ use Rattle.lists.specs.Pick.{pick}
 use Rattle.geometry.specs.declared.Rect.{Rect}
 use Rattle.geometry.specs.Boxes.{intersect}
 use Rattle.commands.specs.Bounds.{clip_box}
-use Rattle.rect_words.specs.Words.{rect_at, put_rect}
+use Rattle.rect_words.specs.Words.{rect_from, put_rect}
 
 abbrev pub clip_at : List Float → ℕ → Rect
-clip_at bs x = rect_at bs (8 * (x - 1))
+clip_at bs x = rect_from bs (8 * (x - 1))
 
 abbrev pub all_at : List Float → ℕ → Rect
-all_at bs x = rect_at bs (8 * (x - 1) + 4)
+all_at bs x = rect_from bs (8 * (x - 1) + 4)
 
 abbrev pub below_at : List ℕ → ℕ → ℕ
 below_at ns x = get_or ns (x - 1) 0

@@ -17,7 +17,7 @@ fn box_of_all(boxes: &[f64], number: u64) -> Option<Rect>
 {
     match number {
         0 => None,
-        x => Some(rect_words::rect_at(boxes, 8 * (x as usize - 1) + 4)),
+        x => Some(rect_words::rect_from(boxes, 8 * (x as usize - 1) + 4)),
     }
 }
 
@@ -67,8 +67,8 @@ pub fn same_clips(boxes: &[f64], below: &[u64], one: u64, other: u64) -> bool
         if x == 0 || y == 0 {
             break 'walk x == 0 && y == 0;
         }
-        let clip = rect_words::rect_at(boxes, 8 * (x - 1));
-        let other_clip = rect_words::rect_at(boxes, 8 * (y - 1));
+        let clip = rect_words::rect_from(boxes, 8 * (x - 1));
+        let other_clip = rect_words::rect_from(boxes, 8 * (y - 1));
         if !clip.same_edges(other_clip) {
             break 'walk false;
         }

@@ -10,10 +10,10 @@ use lib.Ieee.{Float}
 use Rattle.lists.specs.Pick.{pick}
 use Rattle.lists.proofs.Picks.{pick_true}
 use Rattle.geometry.specs.declared.Rect.{Rect}
-use Rattle.rect_words.specs.Words.{put_rect}
+use Rattle.rect_words.specs.Words.{put_rect, box_at}
 use Rattle.rect_words.proofs.Stores.{length_put, rect_same, rect_before}
 use Rattle.display_list.specs.declared.ListState.{ListState}
-use Rattle.display_list.specs.Lists.{command_room, put_item, item_words, item_boxes, offset_at, clip_number_at, box_at}
+use Rattle.display_list.specs.Lists.{command_room, put_item, item_words, item_boxes, offset_at, clip_number_at}
 use Rattle.display_list.proofs.Rooms.{fits_command}
 
 module _ (is : List ℕ) (m offset x : ℕ) (h : 2 * m + 2 ≤ length is) where

@@ -2,7 +2,7 @@
 use Rattle.std.specs.Prelude.{Bool, ◌&&◌, List, ℕ, ◌+◌, ◌-◌, ◌*◌, ◌/◌, eqb, leb, ltb, length, get_or, set, Float}
 use Rattle.lists.specs.Pick.{pick}
 use Rattle.geometry.specs.declared.Rect.{Rect}
-use Rattle.rect_words.specs.Words.{rect_at, put_rect}
+use Rattle.rect_words.specs.Words.{put_rect}
 use Rattle.affine.specs.declared.Affine.{Affine}
 use Rattle.affine.specs.Affines.{transform_rect_bbox}
 use Rattle.clips.specs.Chains.{below_at, clip_rect, put_clip}
@@ -56,6 +56,3 @@ offset_at is i = get_or is (2 * i) 0
 
 abbrev pub clip_number_at : List ℕ → ℕ → ℕ
 clip_number_at is i = get_or is (2 * i + 1) 0
-
-abbrev pub box_at : List Float → ℕ → Rect
-box_at bs i = rect_at bs (4 * i)

@@ -17,7 +17,6 @@ use Rattle.lists.specs.Pick.{pick}
 use Rattle.geometry.specs.declared.Rect.{Rect}
 use Rattle.runtime.specs.declared.FrameWork.{FrameWork}
 use Rattle.runtime.specs.Work.{work_of}
-use Rattle.bands.specs.Bands.{rects_to}
 use Rattle.scheduler.specs.declared.Totals.{Totals}
 use Rattle.scheduler.specs.Schedule.{schedule, Answers}
 use Rattle.scheduler.proofs.Outcomes.{Listed, answered, refused as unlisted, front_words}
@@ -28,6 +27,7 @@ use Rattle.plans.specs.Drafts.{Draft}
 use Rattle.plans.specs.Answers.{draft_fits, planned, accepted}
 use Rattle.drafting.specs.Drafted.{draft_in, rooms, judged, indexed, StandsIf}
 use Rattle.drafting.proofs.Words.{rects_length, rects_words, part_rects}
+use Rattle.rect_words.specs.Words.{boxes_to}
 
 -- ---- the index
 module _ (ws : List ℕ) (n : ℕ) where
@@ -85,38 +85,38 @@ module _ (w h b : ℕ) (rs : List Float) (n : ℕ) (ibs : List Float) (first com
 
   pub rects_over : R < n → Refused
   unfolding draft_fits
-  rects_over k = fits_false (rw (lt-leb (length (rects_to rs n)) R (omega (arith, rects_length rs n))))
+  rects_over k = fits_false (rw (lt-leb (length (boxes_to rs n)) R (omega (arith, rects_length rs n))))
 
-  regions_many : G < length (schedule w h b (rects_to rs n)) → Refused
+  regions_many : G < length (schedule w h b (boxes_to rs n)) → Refused
   unfolding draft_fits
-  regions_many k = fits_false (and_false (leb (length (rects_to rs n)) R) _ (rw (lt-leb (length (schedule w h b (rects_to rs n))) G k)))
+  regions_many k = fits_false (and_false (leb (length (boxes_to rs n)) R) _ (rw (lt-leb (length (schedule w h b (boxes_to rs n))) G k)))
 
   -- the rectangles fit, and those in front are scheduled
-  module _ {gs new : List ℕ} (few : n ≤ R) (long : 4 * R ≤ length rs) {x : Option Totals} (front : Answers (schedule w h b (rects_to (take (4 * n) rs) (length (take (4 * n) rs) / 4))) gs x new) where
-    given : {y : Option Totals} → x ≡ y → Answers (schedule w h b (rects_to rs n)) gs y new
-    given q = subst (λ (y : Option Totals). Answers (schedule w h b (rects_to rs n)) gs y new) q (subst (λ (r : List Rect). Answers (schedule w h b r) gs x new) (part_rects rs n (omega arith)) front)
+  module _ {gs new : List ℕ} (few : n ≤ R) (long : 4 * R ≤ length rs) {x : Option Totals} (front : Answers (schedule w h b (boxes_to (take (4 * n) rs) (length (take (4 * n) rs) / 4))) gs x new) where
+    given : {y : Option Totals} → x ≡ y → Answers (schedule w h b (boxes_to rs n)) gs y new
+    given q = subst (λ (y : Option Totals). Answers (schedule w h b (boxes_to rs n)) gs y new) q (subst (λ (r : List Rect). Answers (schedule w h b r) gs x new) (part_rects rs n (omega arith)) front)
 
     pub regions_full : 4 * G ≤ length gs → x ≡ None → Refused
-    regions_full k q = regions_many (omega (arith, unlisted (schedule w h b (rects_to rs n)) gs new (given q)))
+    regions_full k q = regions_many (omega (arith, unlisted (schedule w h b (boxes_to rs n)) gs new (given q)))
 
     module _ {t : Totals} (q : x ≡ Some t) where
       pub regions_over : G < t.regions → Refused
-      regions_over k = regions_many (omega (arith, (answered (schedule w h b (rects_to rs n)) gs new t (given q)).count_is))
+      regions_over k = regions_many (omega (arith, (answered (schedule w h b (boxes_to rs n)) gs new t (given q)).count_is))
 
       pub regions_fit : t.regions ≤ G → {p : Result Plan Refusal} {ws : List ℕ} (old : List ℕ) → W ≤ length old → p ≡ indexed (index_of (drop (4 * first) ibs) commands h b) W n commands t.regions t.pixels → ws ≡ stored (index_of (drop (4 * first) ibs) commands h b) old → (p ≡ judged (rooms R G W) d) × StandsIf p d rs new ws
       unfolding draft_fits
       regions_fit m {p} {ws} old room e f = (answer_is, stands)
         where
-          listed : Listed (schedule w h b (rects_to rs n)) gs t.regions t.pixels new
-          listed = answered (schedule w h b (rects_to rs n)) gs new t (given q)
+          listed : Listed (schedule w h b (boxes_to rs n)) gs t.regions t.pixels new
+          listed = answered (schedule w h b (boxes_to rs n)) gs new t (given q)
 
           words : List ℕ
           words = index_of (drop (4 * first) ibs) commands h b
 
           answer_is : p ≡ judged (rooms R G W) d
           answer_is =
-              let u : leb (length (rects_to rs n)) R ≡ true = le-leb (length (rects_to rs n)) R (omega (arith, rects_length rs n)) in
-              let v : leb (length (schedule w h b (rects_to rs n))) G ≡ true = le-leb (length (schedule w h b (rects_to rs n))) G (omega (arith, listed.count_is)) in
+              let u : leb (length (boxes_to rs n)) R ≡ true = le-leb (length (boxes_to rs n)) R (omega (arith, rects_length rs n)) in
+              let v : leb (length (schedule w h b (boxes_to rs n))) G ≡ true = le-leb (length (schedule w h b (boxes_to rs n))) G (omega (arith, listed.count_is)) in
               e ∙ rw (u, v) (λ i. pick (leb (length words) W) (Ok (planned (sym (rects_length rs n) i) (length words) (work_of commands (listed.count_is i) (listed.pixels_are i)))) (refused NoRoom 0))
 
           low : (z : Bool) → leb (length words) W ≡ z → accepted (pick z (Ok (planned n (length words) (work_of commands t.regions t.pixels))) (refused NoRoom 0)) ≡ true → length words ≤ W
@@ -129,6 +129,6 @@ module _ (w h b : ℕ) (rs : List Float) (n : ℕ) (ibs : List Float) (first com
               let small = low (leb (length words) W) refl (sym (ap accepted e) ∙ q) in
               record {
                 rects = ap (λ (k : ℕ). take (4 * k) rs) r ∙ rects_words rs n (omega arith);
-                regions = ap (λ (k : ℕ). take (4 * k) new) (sym listed.count_is) ∙ front_words (schedule w h b (rects_to rs n)) gs new t.regions t.pixels listed;
+                regions = ap (λ (k : ℕ). take (4 * k) new) (sym listed.count_is) ∙ front_words (schedule w h b (boxes_to rs n)) gs new t.regions t.pixels listed;
                 words = ap (take (length words)) f ∙ stored_front words old (omega arith);
               }

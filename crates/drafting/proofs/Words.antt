@@ -7,25 +7,23 @@ use lib.ListN.{length, take, get_or, length-append}
 use lib.Seq.{take-suc, get_or-take, length-take-le}
 use lib.Ieee.{Float, nan}
 use Rattle.geometry.specs.declared.Rect.{Rect}
-use Rattle.rect_words.specs.Words.{rect_at}
-use Rattle.rect_list.specs.Rects.{words_of}
-use Rattle.bands.specs.Bands.{rects_to, rect_at as rectIn}
-use Rattle.band_index.specs.Boxes.{box_at, boxes_of}
+use Rattle.rect_words.specs.Words.{rect_from, box_at, boxes_to}
+use Rattle.rect_list.specs.Rects.{words_of_rects}
 use Rattle.band_index.proofs.Reading.{boxes_are}
 
 -- the first n boxes are as many
-pub rects_length : (xs : List Float) (n : ℕ) → length (rects_to xs n) ≡ n
-unfolding rects_to
+pub rects_length : (xs : List Float) (n : ℕ) → length (boxes_to xs n) ≡ n
+unfolding boxes_to
 rects_length xs zero = refl
-rects_length xs (suc n) = length-append (rects_to xs n) (rectIn xs n ∷ []) ∙ omega (arith, rects_length xs n)
+rects_length xs (suc n) = length-append (boxes_to xs n) (box_at xs n ∷ []) ∙ omega (arith, rects_length xs n)
 
-words_append : (a b : List Rect) → words_of (a ++ b) ≡ words_of a ++ words_of b
-unfolding words_of
+words_append : (a b : List Rect) → words_of_rects (a ++ b) ≡ words_of_rects a ++ words_of_rects b
+unfolding words_of_rects
 words_append [] b = refl
 words_append (r ∷ a) b = ap (λ (l : List Float). r.x0 ∷ r.y0 ∷ r.x1 ∷ r.y1 ∷ l) (words_append a b)
 
-four : (r : Rect) → words_of (r ∷ []) ≡ r.x0 ∷ r.y0 ∷ r.x1 ∷ r.y1 ∷ []
-unfolding words_of
+four : (r : Rect) → words_of_rects (r ∷ []) ≡ r.x0 ∷ r.y0 ∷ r.x1 ∷ r.y1 ∷ []
+unfolding words_of_rects
 four r = refl
 
 -- one word more, as often as a box has words
@@ -44,7 +42,7 @@ next_four xs i h =
     ∙ append_assoc (take i xs) (get_or xs i nan ∷ []) (get_or xs (i + 1) nan ∷ get_or xs (i + 2) nan ∷ get_or xs (i + 3) nan ∷ [])
 
 -- the same of a part that has as many words
-rect_front : (m : ℕ) (xs : List Float) (i : ℕ) → i + 4 ≤ m → rect_at (take m xs) i ≡ rect_at xs i
+rect_front : (m : ℕ) (xs : List Float) (i : ℕ) → i + 4 ≤ m → rect_from (take m xs) i ≡ rect_from xs i
 rect_front m xs i h =
     let a = get_or-take m xs i nan (omega arith) in
     let b = get_or-take m xs (i + 1) nan (omega arith) in
@@ -52,16 +50,16 @@ rect_front m xs i h =
     let e = get_or-take m xs (i + 3) nan (omega arith) in
     λ j. record { x0 = a j; y0 = b j; x1 = c j; y1 = e j }
 
-rects_front : (m : ℕ) (xs : List Float) (n : ℕ) → 4 * n ≤ m → rects_to (take m xs) n ≡ rects_to xs n
-unfolding rects_to rectIn
+rects_front : (m : ℕ) (xs : List Float) (n : ℕ) → 4 * n ≤ m → boxes_to (take m xs) n ≡ boxes_to xs n
+unfolding boxes_to box_at
 rects_front m xs zero h = refl
 rects_front m xs (suc n) h =
     let a = rects_front m xs n (omega arith) in
     let b = rect_front m xs (4 * n) (omega arith) in
     λ j. a j ++ (b j ∷ [])
 
-boxes_front : (m : ℕ) (xs : List Float) (n : ℕ) → 4 * n ≤ m → boxes_of (take m xs) n ≡ boxes_of xs n
-unfolding boxes_of box_at
+boxes_front : (m : ℕ) (xs : List Float) (n : ℕ) → 4 * n ≤ m → boxes_to (take m xs) n ≡ boxes_to xs n
+unfolding boxes_to box_at
 boxes_front m xs zero h = refl
 boxes_front m xs (suc n) h =
     let a = boxes_front m xs n (omega arith) in
@@ -71,27 +69,27 @@ boxes_front m xs (suc n) h =
 pub part_count : (xs : List Float) (n : ℕ) → 4 * n ≤ length xs → length (take (4 * n) xs) / 4 ≡ n
 part_count xs n h = omega (arith, length-take-le (4 * n) xs h)
 
-pub part_rects : (xs : List Float) (n : ℕ) → 4 * n ≤ length xs → rects_to (take (4 * n) xs) (length (take (4 * n) xs) / 4) ≡ rects_to xs n
-part_rects xs n h = ap (rects_to (take (4 * n) xs)) (part_count xs n h) ∙ rects_front (4 * n) xs n (omega arith)
+pub part_rects : (xs : List Float) (n : ℕ) → 4 * n ≤ length xs → boxes_to (take (4 * n) xs) (length (take (4 * n) xs) / 4) ≡ boxes_to xs n
+part_rects xs n h = ap (boxes_to (take (4 * n) xs)) (part_count xs n h) ∙ rects_front (4 * n) xs n (omega arith)
 
-pub part_boxes : (xs : List Float) (n : ℕ) → 4 * n ≤ length xs → boxes_of (take (4 * n) xs) (length (take (4 * n) xs) / 4) ≡ boxes_of xs n
-part_boxes xs n h = ap (boxes_of (take (4 * n) xs)) (part_count xs n h) ∙ boxes_front (4 * n) xs n (omega arith)
+pub part_boxes : (xs : List Float) (n : ℕ) → 4 * n ≤ length xs → boxes_to (take (4 * n) xs) (length (take (4 * n) xs) / 4) ≡ boxes_to xs n
+part_boxes xs n h = ap (boxes_to (take (4 * n) xs)) (part_count xs n h) ∙ boxes_front (4 * n) xs n (omega arith)
 
 -- their words are the first 4 * n of the space
-pub rects_words : (xs : List Float) (n : ℕ) → 4 * n ≤ length xs → take (4 * n) xs ≡ words_of (rects_to xs n)
-unfolding rects_to rectIn
-rects_words xs zero h = unfold words_of in refl
+pub rects_words : (xs : List Float) (n : ℕ) → 4 * n ≤ length xs → take (4 * n) xs ≡ words_of_rects (boxes_to xs n)
+unfolding boxes_to box_at
+rects_words xs zero h = unfold words_of_rects in refl
 rects_words xs (suc n) h =
     let e : 4 * suc n ≡ 4 * n + 4 = omega arith in
     ap (λ (k : ℕ). take k xs) e
     ∙ next_four xs (4 * n) (omega arith)
     ∙ ap (λ (l : List Float). l ++ (get_or xs (4 * n) nan ∷ get_or xs (4 * n + 1) nan ∷ get_or xs (4 * n + 2) nan ∷ get_or xs (4 * n + 3) nan ∷ [])) (rects_words xs n (omega arith))
-    ∙ ap (λ (l : List Float). words_of (rects_to xs n) ++ l) (sym (four (rect_at xs (4 * n))))
-    ∙ sym (words_append (rects_to xs n) (rect_at xs (4 * n) ∷ []))
+    ∙ ap (λ (l : List Float). words_of_rects (boxes_to xs n) ++ l) (sym (four (rect_from xs (4 * n))))
+    ∙ sym (words_append (boxes_to xs n) (rect_from xs (4 * n) ∷ []))
 
 -- ---- and a list whose words stand in front is the list there
-rect_of_words : (l : List Rect) (i : ℕ) (d : Rect) → i < length l → rect_at (words_of l) (4 * i) ≡ get_or l i d
-unfolding words_of
+rect_of_words : (l : List Rect) (i : ℕ) (d : Rect) → i < length l → rect_from (words_of_rects l) (4 * i) ≡ get_or l i d
+unfolding words_of_rects
 rect_of_words [] i d h = absurd (omega arith)
 rect_of_words (r ∷ l) zero d h = refl
 rect_of_words (r ∷ l) (suc i) d h =
@@ -101,11 +99,11 @@ rect_of_words (r ∷ l) (suc i) d h =
     let c : 4 * suc i + 3 ≡ suc (suc (suc (suc (4 * i + 3)))) = omega arith in
     rw (a, b, c, z) (rect_of_words l i d (omega arith))
 
-boxes_same : (xs : List Float) (n : ℕ) → rects_to xs n ≡ boxes_of xs n
-unfolding rects_to rectIn boxes_of box_at
+boxes_same : (xs : List Float) (n : ℕ) → boxes_to xs n ≡ boxes_to xs n
+unfolding boxes_to box_at boxes_to box_at
 boxes_same xs zero = refl
-boxes_same xs (suc n) = let e : 4 * n ≡ 4 * n + 0 = omega arith in λ i. boxes_same xs n i ++ (rect_at xs (e i) ∷ [])
+boxes_same xs (suc n) = let e : 4 * n ≡ 4 * n + 0 = omega arith in λ i. boxes_same xs n i ++ (rect_from xs (e i) ∷ [])
 
-pub rects_back : (l : List Rect) (xs : List Float) (d : Rect) → take (4 * length l) xs ≡ words_of l → rects_to xs (length l) ≡ l
+pub rects_back : (l : List Rect) (xs : List Float) (d : Rect) → take (4 * length l) xs ≡ words_of_rects l → boxes_to xs (length l) ≡ l
 unfolding box_at
-rects_back l xs d h = boxes_same xs (length l) ∙ boxes_are xs l d (λ i k. let e : 4 * i + 0 ≡ 4 * i = omega arith in ap (rect_at xs) e ∙ sym (rect_front (4 * length l) xs (4 * i) (omega arith)) ∙ ap (λ (ws : List Float). rect_at ws (4 * i)) h ∙ rect_of_words l i d k)
+rects_back l xs d h = boxes_same xs (length l) ∙ boxes_are xs l d (λ i k. let e : 4 * i + 0 ≡ 4 * i = omega arith in ap (rect_from xs) e ∙ sym (rect_front (4 * length l) xs (4 * i) (omega arith)) ∙ ap (λ (ws : List Float). rect_from ws (4 * i)) h ∙ rect_of_words l i d k)

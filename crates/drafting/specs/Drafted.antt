@@ -6,23 +6,22 @@ use Rattle.std.specs.Prelude.{◌≡◌, true, List, ℕ, ◌*◌, ◌≤◌, le
 use Rattle.lists.specs.Pick.{pick}
 use Rattle.rows.specs.Rows.{row_count}
 use Rattle.rect_list.specs.Rects as Rects
-use Rattle.bands.specs.Bands.{rects_to}
 use Rattle.scheduler.specs.Schedule as Schedule
-use Rattle.band_index.specs.Boxes.{boxes_of}
 use Rattle.index_words.specs.Index.{index_words}
 use Rattle.runtime.specs.Work.{work_of}
 use Rattle.plans.specs.declared.Plan.{Plan}
 use Rattle.plans.specs.Drafts.{Draft}
 use Rattle.plans.specs.Space.{Lent}
 use Rattle.plans.specs.Answers.{draft_fits, planned, counts, accepted}
+use Rattle.rect_words.specs.Words.{boxes_to}
 
 -- the draft of the first n rectangles and of so many commands
 abbrev pub draft_in : ℕ → ℕ → ℕ → List Float → ℕ → List Float → ℕ → ℕ → Draft
 draft_in w h b rs n ibs first commands =
     record {
-      rects = rects_to rs n;
-      regions = Schedule.schedule w h b (rects_to rs n);
-      words = index_words b (row_count h b) (boxes_of (drop (4 * first) ibs) commands);
+      rects = boxes_to rs n;
+      regions = Schedule.schedule w h b (boxes_to rs n);
+      words = index_words b (row_count h b) (boxes_to (drop (4 * first) ibs) commands);
       emitted = commands;
     }
 
@@ -40,8 +39,8 @@ indexed words room rects commands regions pixels = pick (leb (length words) room
 
 -- the words of a draft stand in front of what was lent for it
 pub record Stands (d : Draft) (rs : List Float) (gs ws : List ℕ) : Type 0 where
-  pub rects : take (4 * length d.rects) rs ≡ Rects.words_of d.rects
-  pub regions : take (4 * length d.regions) gs ≡ Schedule.words_of d.regions
+  pub rects : take (4 * length d.rects) rs ≡ Rects.words_of_rects d.rects
+  pub regions : take (4 * length d.regions) gs ≡ Schedule.words_of_regions d.regions
   pub words : take (length d.words) ws ≡ d.words
 
 -- they stand there where the draft is accepted

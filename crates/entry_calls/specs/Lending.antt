@@ -4,8 +4,8 @@ use Rattle.plans.specs.Space.{Lent, Slices}
 use Rattle.entry_calls.specs.declared.Limits.{Limits}
 use Rattle.entry_calls.specs.declared.Space.{Space}
 
-abbrev pub lent : Limits → Lent
-lent n =
+abbrev pub lent_for : Limits → Lent
+lent_for n =
     record {
       commands = n.commands;
       glyphs = n.glyphs;

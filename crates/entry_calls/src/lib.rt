@@ -2,9 +2,9 @@
 #![tactic(auto)]
 
 ghost use Rattle.std.specs.Prelude.{◌≡◌, IfOk};
-ghost use Rattle.plans.specs.Answers.{Answered, index_words, published, rect_words, region_words};
+ghost use Rattle.plans.specs.Answers.{Answered, index_words_of, published, rect_words_of, region_words_of};
 ghost use Rattle.plans.specs.Space.{lent_of};
-ghost use Rattle.entry_calls.specs.Lending.{at_most, lent, slices_of};
+ghost use Rattle.entry_calls.specs.Lending.{at_most, lent_for, slices_of};
 ghost use Rattle.frame_drafts.specs.Scratch.{outcome};
 
 pub use planner::Entry;
@@ -60,7 +60,7 @@ pub struct Space {
 impl Space {
     // Space for so many items of each kind.
     pub fn new(alloc: Global, limits: Limits) -> Result<Space, AllocError>
-        ensures { IfOk result (λ space. lent_of (slices_of space) ≡ lent limits) }
+        ensures { IfOk result (λ space. lent_of (slices_of space) ≡ lent_for limits) }
     {
         let commands = limits.commands as usize;
         let clips = limits.clips as usize;
@@ -87,9 +87,9 @@ impl Space {
     // The plan that the entry makes of its input, or its refusal.
     pub fn plan(&mut self, entry: Entry, input: &[u8]) -> Result<Plan, Refusal>
         ensures answer { Answered (lent_of (slices_of self.old)) (outcome entry input.now) result }
-        ensures rectangles { self.new.rects.items ≡ published result (rect_words (outcome entry input.now)) self.old.rects.items }
-        ensures scheduled { self.new.regions.items ≡ published result (region_words (outcome entry input.now)) self.old.regions.items }
-        ensures index { self.new.words.items ≡ published result (index_words (outcome entry input.now)) self.old.words.items }
+        ensures rectangles { self.new.rects.items ≡ published result (rect_words_of (outcome entry input.now)) self.old.rects.items }
+        ensures scheduled { self.new.regions.items ≡ published result (region_words_of (outcome entry input.now)) self.old.regions.items }
+        ensures index { self.new.words.items ≡ published result (index_words_of (outcome entry input.now)) self.old.words.items }
         ensures space { lent_of (slices_of self.new) ≡ lent_of (slices_of self.old) }
     {
         planner::plan(

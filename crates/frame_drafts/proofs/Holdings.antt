@@ -10,7 +10,7 @@ use lib.Ieee.Fits.{and_l, and_r}
 use Rattle.lists.proofs.Bools.{holds, is_true}
 use Rattle.lists.proofs.Picks.{pick_cases}
 use Rattle.geometry.specs.declared.Rect.{Rect}
-use Rattle.rect_words.specs.Words.{rect_at}
+use Rattle.rect_words.specs.Words.{rect_from, box_at, boxes_to}
 use Rattle.commands.specs.Bounds.{Command, bounds}
 use Rattle.strip.specs.declared.Cursor.{Cursor}
 use Rattle.strip.specs.Reading.{read_strip}
@@ -20,11 +20,10 @@ use Rattle.frame.specs.declared.Strips.{Strips}
 use Rattle.frame.specs.Frame.{first_of, both_of, with_old, then_end, then_new, then_strips, ended}
 use Rattle.stored_lists.specs.Stored.{command_in, commands_in, Stored}
 use Rattle.recording.specs.Recorded.{Space, SameLengths, Room}
-use Rattle.band_index.specs.Boxes.{box_at as boxNumbers, boxes_of}
 use Rattle.band_index.proofs.Reading.{boxes_are}
 use Rattle.plans.specs.Drafts.{Items}
 use Rattle.plans.specs.Answers.{items_fit}
-use Rattle.frame_drafts.specs.Scratch.{lent}
+use Rattle.frame_drafts.specs.Scratch.{lent_scratch}
 
 -- ---- the counts are within the limits
 abbrev FirstWithin : Result Cursor Refusal → Type 0
@@ -59,11 +58,11 @@ both_within s r a both q = subst BothWithin (sym a ∙ q) (old_within s (read_st
 
 -- ---- items that fit
 -- whatever is lent for the draft
-pub items_same : (z y : Space) (glyphs : List ℕ) (R G W : ℕ) (i : Items) → SameLengths z y → items_fit (lent y.boxes y.below y.items y.item_boxes glyphs 0 0 0) i ≡ items_fit (lent z.boxes z.below z.items z.item_boxes glyphs R G W) i
+pub items_same : (z y : Space) (glyphs : List ℕ) (R G W : ℕ) (i : Items) → SameLengths z y → items_fit (lent_scratch y.boxes y.below y.items y.item_boxes glyphs 0 0 0) i ≡ items_fit (lent_scratch z.boxes z.below z.items z.item_boxes glyphs R G W) i
 unfolding items_fit
 items_same z y glyphs R G W i l = λ j. leb i.commands (min (l.items j / 2) (l.item_boxes j / 4)) && (leb i.glyphs (length glyphs) && leb i.clips (min (l.boxes j / 8) (l.below j)))
 
-pub items_room : (y : Space) (glyphs : List ℕ) (i : Items) → items_fit (lent y.boxes y.below y.items y.item_boxes glyphs 0 0 0) i ≡ true → Room i.clips i.commands y
+pub items_room : (y : Space) (glyphs : List ℕ) (i : Items) → items_fit (lent_scratch y.boxes y.below y.items y.item_boxes glyphs 0 0 0) i ≡ true → Room i.clips i.commands y
 unfolding items_fit
 items_room y glyphs i e =
     let a = leb i.commands (min (length y.items / 2) (length y.item_boxes / 4)) in
@@ -90,7 +89,7 @@ map_length : (l : List Command) → length (map bounds l) ≡ length l
 map_length [] = refl
 map_length (c ∷ l) = ap suc (map_length l)
 
-rect_behind : (xs : List Float) (k i : ℕ) → rect_at (drop k xs) i ≡ rect_at xs (k + i)
+rect_behind : (xs : List Float) (k i : ℕ) → rect_from (drop k xs) i ≡ rect_from xs (k + i)
 rect_behind xs k i =
     let a = get_or-drop k xs i nan in
     let b : get_or (drop k xs) (i + 1) nan ≡ get_or xs (k + i + 1) nan = let e : k + (i + 1) ≡ k + i + 1 = omega arith in get_or-drop k xs (i + 1) nan ∙ ap (λ (j : ℕ). get_or xs j nan) e in
@@ -99,14 +98,14 @@ rect_behind xs k i =
     λ j. record { x0 = a j; y0 = b j; x1 = c j; y1 = d j }
 
 module _ (s : List ℕ) (bs : List Float) (ns is : List ℕ) (ibs : List Float) (first n : ℕ) (h : Stored (first + n) s bs ns is ibs) where
-  pub stored_boxes : (cs : List Command) → commands_in s bs ns is first n ≡ cs → boxes_of (drop (4 * first) ibs) n ≡ map bounds cs
-  unfolding boxNumbers
+  pub stored_boxes : (cs : List Command) → commands_in s bs ns is first n ≡ cs → boxes_to (drop (4 * first) ibs) n ≡ map bounds cs
+  unfolding box_at
   stored_boxes cs e =
-      let d : Rect = rect_at ibs 0 in
+      let d : Rect = rect_from ibs 0 in
       let k : length (map bounds (commands_in s bs ns is first n)) ≡ n = map_length (commands_in s bs ns is first n) ∙ list_length s bs ns is n first in
-      ap (boxes_of (drop (4 * first) ibs)) (sym k)
+      ap (boxes_to (drop (4 * first) ibs)) (sym k)
       ∙ boxes_are (drop (4 * first) ibs) (map bounds (commands_in s bs ns is first n)) d (λ i l.
       let u : i < n = omega arith in
       let v : 4 * first + (4 * i + 0) ≡ 4 * (first + i) = omega arith in
-      rect_behind ibs (4 * first) (4 * i + 0) ∙ ap (rect_at ibs) v ∙ h.boxed (first + i) (omega arith) ∙ sym (list_at s bs ns is n first i d u))
+      rect_behind ibs (4 * first) (4 * i + 0) ∙ ap (rect_from ibs) v ∙ h.boxed (first + i) (omega arith) ∙ sym (list_at s bs ns is n first i d u))
       ∙ ap (map bounds) e

@@ -28,22 +28,22 @@ use Rattle.plans.specs.Drafts.{Items, Outcome, turned, drafted, screen_rect, on_
 use Rattle.plans.specs.Space.{Lent}
 use Rattle.plans.specs.Answers.{items_fit, answer_of}
 use Rattle.commands.specs.Bounds.{bounds}
-use Rattle.band_index.specs.Boxes.{boxes_of}
 use Rattle.drafting.proofs.Words.{part_count, part_boxes}
 use Rattle.drafting.specs.Drafted.{draft_in, rooms, judged, StandsIf, Ready}
 use Rattle.frame_drafts.specs.declared.Entry.{Entry}
 use Rattle.frame_drafts.specs.declared.Entry.TheVariants.{First, Next}
 use Rattle.frame_drafts.specs.declared.Changed.{Changed}
-use Rattle.frame_drafts.specs.Scratch.{lent, on_strips, outcome, Roomy, StandsFor}
+use Rattle.frame_drafts.specs.Scratch.{lent_scratch, on_strips, outcome, Roomy, StandsFor}
 use Rattle.frame_drafts.specs.Listing.{Stand}
 use Rattle.frame_drafts.specs.declared.Items.{Items as Counts}
 use Rattle.frame_drafts.specs.Counts.{count_both, items_of, items_of_both}
 use Rattle.frame_drafts.proofs.Holdings.{first_within, both_within, items_same, items_room, list_length, stored_boxes}
 use Rattle.frame_drafts.proofs.Judgements.{answered, no_items}
+use Rattle.rect_words.specs.Words.{boxes_to}
 
 -- what is lent for a call, with this scratch for its lists
 abbrev lent_for : Space → List ℕ → ℕ → ℕ → ℕ → Lent
-lent_for z glyphs R G W = lent z.boxes z.below z.items z.item_boxes glyphs R G W
+lent_for z glyphs R G W = lent_scratch z.boxes z.below z.items z.item_boxes glyphs R G W
 
 -- what was counted, as the items of an outcome
 abbrev of_counts : Counts → Items
@@ -70,7 +70,7 @@ module _ (s : List ℕ) {z y : Space} (glyphs : List ℕ) {r : Result Strips Ref
     abbrev items : Items
     items = record { commands = old.commands + new.commands; glyphs = old.glyphs + new.glyphs; clips = old.clips + new.clips }
 
-    module _ {counts : Counts} (counted : counts ≡ items_of_both both) {t : Bool} (judges : t ≡ items_fit (lent y.boxes y.below y.items y.item_boxes glyphs 0 0 0) (of_counts counts)) where
+    module _ {counts : Counts} (counted : counts ≡ items_of_both both) {t : Bool} (judges : t ≡ items_fit (lent_scratch y.boxes y.below y.items y.item_boxes glyphs 0 0 0) (of_counts counts)) where
       -- no sum of two counts saturates
       same_counts : of_counts counts ≡ items
       same_counts =
@@ -81,8 +81,8 @@ module _ (s : List ℕ) {z y : Space} (glyphs : List ℕ) {r : Result Strips Ref
           let p : count_both old.clips new.clips ≡ old.clips + new.clips = omega (arith, o.clips, n.clips) in
           ap of_counts counted ∙ λ i. record { commands = c i; glyphs = g i; clips = p i }
 
-      both_judged : t ≡ items_fit (lent y.boxes y.below y.items y.item_boxes glyphs 0 0 0) items
-      both_judged = judges ∙ ap (items_fit (lent y.boxes y.below y.items y.item_boxes glyphs 0 0 0)) same_counts
+      both_judged : t ≡ items_fit (lent_scratch y.boxes y.below y.items y.item_boxes glyphs 0 0 0) items
+      both_judged = judges ∙ ap (items_fit (lent_scratch y.boxes y.below y.items y.item_boxes glyphs 0 0 0)) same_counts
 
       pub next_over : t ≡ false → (w h b R G W : ℕ) → refused NoRoom 0 ≡ answer_of (lent_for z glyphs R G W) (on_both w h b s (both_of s))
       next_over e w h b R G W = rw (sym (sym q ∙ a)) (no_items (lent_for z glyphs R G W) _ _ (sym (items_same z y glyphs R G W _ l) ∙ sym both_judged ∙ e))
@@ -121,9 +121,9 @@ module _ (s : List ℕ) (w h b : ℕ) {z y : Space} (glyphs : List ℕ) {r : Res
   pub first_refused : (why : Refusal) → r ≡ Err why → (R G W : ℕ) → Err why ≡ answer_of (lent_for z glyphs R G W) (on_first w h b s (first_of s))
   first_refused why q R G W = rw (sym (sym q ∙ a)) refl
 
-  module _ {new : Cursor} (q : r ≡ Ok new) {counts : Counts} (counted : counts ≡ items_of new) {t : Bool} (judges : t ≡ items_fit (lent y.boxes y.below y.items y.item_boxes glyphs 0 0 0) (of_counts counts)) where
-    judged_one : t ≡ items_fit (lent y.boxes y.below y.items y.item_boxes glyphs 0 0 0) (of_counts (items_of new))
-    judged_one = judges ∙ ap (λ (x : Counts). items_fit (lent y.boxes y.below y.items y.item_boxes glyphs 0 0 0) (of_counts x)) counted
+  module _ {new : Cursor} (q : r ≡ Ok new) {counts : Counts} (counted : counts ≡ items_of new) {t : Bool} (judges : t ≡ items_fit (lent_scratch y.boxes y.below y.items y.item_boxes glyphs 0 0 0) (of_counts counts)) where
+    judged_one : t ≡ items_fit (lent_scratch y.boxes y.below y.items y.item_boxes glyphs 0 0 0) (of_counts (items_of new))
+    judged_one = judges ∙ ap (λ (x : Counts). items_fit (lent_scratch y.boxes y.below y.items y.item_boxes glyphs 0 0 0) (of_counts x)) counted
 
     pub first_over : t ≡ false → (R G W : ℕ) → refused NoRoom 0 ≡ answer_of (lent_for z glyphs R G W) (on_first w h b s (first_of s))
     first_over e R G W = rw (sym (sym q ∙ a)) (no_items (lent_for z glyphs R G W) _ _ (sym (items_same z y glyphs R G W _ l) ∙ sym judged_one ∙ e))
@@ -171,8 +171,8 @@ module _ (w h b : ℕ) (o : Outcome) (z : Space) (glyphs : List ℕ) (before rs 
   many : length part / 4 ≡ c.commands
   many = ap (λ (l : List Float). length l / 4) the_part ∙ part_count (drop (4 * c.first) ibs) c.commands behind
 
-  part_bounds : boxes_of (drop (4 * 0) part) (length part / 4) ≡ map bounds g.commands
-  part_bounds = ap (λ (l : List Float). boxes_of l (length l / 4)) the_part ∙ part_boxes (drop (4 * c.first) ibs) c.commands behind ∙ g.boxes
+  part_bounds : boxes_to (drop (4 * 0) part) (length part / 4) ≡ map bounds g.commands
+  part_bounds = ap (λ (l : List Float). boxes_to l (length l / 4)) the_part ∙ part_boxes (drop (4 * c.first) ibs) c.commands behind ∙ g.boxes
 
   module _ (R G W : ℕ) where
     pub stand_ready : Sizes w h b → (work gs ws : List ℕ) → Roomy before work gs ws R G W → Ready w h b rs (length part / 4) work is gs ws (rooms R G W)

@@ -13,23 +13,22 @@ use Rattle.commands.specs.Bounds.{Command, bounds}
 use Rattle.rows.specs.Rows.{row_count}
 use Rattle.index_words.specs.Index.{index_words}
 use Rattle.rect_list.specs.Rects.{Listed}
-use Rattle.bands.specs.Bands.{rects_to}
 use Rattle.scheduler.specs.Schedule.{schedule}
-use Rattle.band_index.specs.Boxes.{boxes_of}
 use Rattle.plans.specs.declared.Plan.{Plan}
 use Rattle.plans.specs.Drafts.{Draft, draft, Items, drafted, screen_rect}
 use Rattle.plans.specs.Space.{Lent}
 use Rattle.plans.specs.Answers.{items_fit, draft_fits, accepted, answer_of}
 use Rattle.drafting.specs.Drafted.{draft_in, rooms, judged, StandsIf}
 use Rattle.drafting.proofs.Words.{rects_length, rects_back}
+use Rattle.rect_words.specs.Words.{boxes_to}
 
 -- ---- the draft in scratch is that of the lists
-module _ (w h b : ℕ) (l : List Rect) (cs : List Command) (old rs : List Float) (n : ℕ) (ibs : List Float) (first count R G W : ℕ) (listed : Listed old l rs n) (long : 4 * R ≤ length old) (boxes : boxes_of (drop (4 * first) ibs) count ≡ map bounds cs) (many : count ≡ length cs) where
+module _ (w h b : ℕ) (l : List Rect) (cs : List Command) (old rs : List Float) (n : ℕ) (ibs : List Float) (first count R G W : ℕ) (listed : Listed old l rs n) (long : 4 * R ≤ length old) (boxes : boxes_to (drop (4 * first) ibs) count ≡ map bounds cs) (many : count ≡ length cs) where
   same_draft : n ≤ R → draft_in w h b rs n ibs first count ≡ draft w h b l cs
   same_draft k =
       let front = listed.words (omega arith) in
       let m = listed.count in
-      let r : rects_to rs n ≡ l = ap (rects_to rs) m ∙ rects_back l rs (screen_rect w h) (ap (λ (j : ℕ). take (4 * j) rs) (sym m) ∙ front) in
+      let r : boxes_to rs n ≡ l = ap (boxes_to rs) m ∙ rects_back l rs (screen_rect w h) (ap (λ (j : ℕ). take (4 * j) rs) (sym m) ∙ front) in
       λ i. record { rects = r i; regions = schedule w h b (r i); words = index_words b (row_count h b) (boxes i); emitted = many i }
 
   module _ (z : Lent) (i : Items) (fit : items_fit z i ≡ true) (same-rects : z.rects ≡ R) (same-regions : z.regions ≡ G) (same-words : z.words ≡ W) (p : Result Plan Refusal) (gs ws : List ℕ) (e : p ≡ judged (rooms R G W) (draft_in w h b rs n ibs first count)) (f : StandsIf p (draft_in w h b rs n ibs first count) rs gs ws) where
@@ -45,7 +44,7 @@ module _ (w h b : ℕ) (l : List Rect) (cs : List Command) (old rs : List Float)
     too_many : R < n → (p ≡ answer_of z (drafted i (draft w h b l cs))) × StandsIf p (draft w h b l cs) rs gs ws
     unfolding draft_fits
     too_many k =
-        let u : leb (length (rects_to rs n)) R ≡ false = lt-leb (length (rects_to rs n)) R (omega (arith, rects_length rs n)) in
+        let u : leb (length (boxes_to rs n)) R ≡ false = lt-leb (length (boxes_to rs n)) R (omega (arith, rects_length rs n)) in
         let v : leb (length l) R ≡ false = lt-leb (length l) R (omega (arith, listed.count)) in
         let c : p ≡ refused NoRoom 0 = e ∙ rw u in
         (c ∙ rw (fit, same-rects, v), λ q. absurd (false≢true (sym (ap accepted c) ∙ q)))

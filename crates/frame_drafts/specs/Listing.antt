@@ -6,11 +6,11 @@ use Rattle.geometry.specs.declared.Rect.{Rect}
 use Rattle.commands.specs.Bounds.{Command, bounds}
 use Rattle.rect_list.specs.Rects.{Listed}
 use Rattle.recording.specs.Recorded.{Space}
-use Rattle.band_index.specs.Boxes.{boxes_of}
 use Rattle.plans.specs.Drafts.{Items, Outcome, draft, drafted}
 use Rattle.plans.specs.Answers.{items_fit, answer_of}
 use Rattle.frame_drafts.specs.declared.Changed.{Changed}
-use Rattle.frame_drafts.specs.Scratch.{lent}
+use Rattle.frame_drafts.specs.Scratch.{lent_scratch}
+use Rattle.rect_words.specs.Words.{boxes_to}
 
 -- the draft is that of rectangles and commands that are in scratch, and the items fit in the scratch z that was lent
 pub record Stand (w h b : ℕ) (o : Outcome) (z : Space) (glyphs : List ℕ) (before rs : List Float) (is : List ℕ) (ibs : List Float) (c : Changed) : Type 0 where
@@ -18,9 +18,9 @@ pub record Stand (w h b : ℕ) (o : Outcome) (z : Space) (glyphs : List ℕ) (be
   pub rects : List Rect
   pub commands : List Command
   pub is_draft : o ≡ drafted items (draft w h b rects commands)
-  pub fit : items_fit (lent z.boxes z.below z.items z.item_boxes glyphs 0 0 0) items ≡ true
+  pub fit : items_fit (lent_scratch z.boxes z.below z.items z.item_boxes glyphs 0 0 0) items ≡ true
   pub listed : Listed before rects rs c.n
-  pub boxes : boxes_of (drop (4 * c.first) ibs) c.commands ≡ map bounds commands
+  pub boxes : boxes_to (drop (4 * c.first) ibs) c.commands ≡ map bounds commands
   pub count : c.commands ≡ length commands
   pub few : c.commands ≤ 4096
   pub held : 4 * (c.first + c.commands) ≤ length ibs
@@ -29,4 +29,4 @@ pub record Stand (w h b : ℕ) (o : Outcome) (z : Space) (glyphs : List ℕ) (be
 -- or the call is refused, whatever is lent for its plan
 abbrev pub Lists : ℕ → ℕ → ℕ → Outcome → Space → List ℕ → List Float → List Float → List ℕ → List Float → Result Changed Refusal → Type 0
 Lists w h b o z glyphs before rs is ibs (Ok c) = Stand w h b o z glyphs before rs is ibs c
-Lists w h b o z glyphs before rs is ibs (Err why) = (R G W : ℕ) → Err why ≡ answer_of (lent z.boxes z.below z.items z.item_boxes glyphs R G W) o
+Lists w h b o z glyphs before rs is ibs (Err why) = (R G W : ℕ) → Err why ≡ answer_of (lent_scratch z.boxes z.below z.items z.item_boxes glyphs R G W) o

@@ -10,8 +10,8 @@ use Rattle.plans.specs.Space.{Lent}
 use Rattle.drafting.specs.Drafted.{StandsIf}
 
 -- by the lengths of what is lent for clips, commands and glyphs, and by how many rectangles, regions and index words are lent
-abbrev pub lent : List Float → List ℕ → List ℕ → List Float → List ℕ → ℕ → ℕ → ℕ → Lent
-lent bs ns is ibs glyphs rects regions words =
+abbrev pub lent_scratch : List Float → List ℕ → List ℕ → List Float → List ℕ → ℕ → ℕ → ℕ → Lent
+lent_scratch bs ns is ibs glyphs rects regions words =
     record {
       commands = min (length is / 2) (length ibs / 4);
       glyphs = length glyphs;

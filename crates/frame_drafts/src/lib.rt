@@ -7,7 +7,7 @@ ghost use Rattle.recording.specs.Recorded.{space};
 ghost use Rattle.frame.specs.Frame.{first_of, both_of};
 ghost use Rattle.plans.specs.Drafts.{screen_rect, on_first, on_both};
 ghost use Rattle.plans.specs.Answers.{items_fit, answer_of};
-ghost use Rattle.frame_drafts.specs.Scratch.{lent, on_strips, outcome, Roomy, StandsFor};
+ghost use Rattle.frame_drafts.specs.Scratch.{lent_scratch, on_strips, outcome, Roomy, StandsFor};
 ghost use Rattle.frame_drafts.specs.Listing.{Lists};
 ghost use Rattle.frame_drafts.specs.Counts.{items_of, items_of_both};
 
@@ -81,7 +81,7 @@ fn items_fit(
     item_boxes: &[f64],
     glyph_items: &[u64],
 ) -> bool
-    ensures { result ≡ items_fit (lent boxes.now below.now items.now item_boxes.now glyph_items.now 0 0 0) (record { commands = count.commands; glyphs = count.glyphs; clips = count.clips }) }
+    ensures { result ≡ items_fit (lent_scratch boxes.now below.now items.now item_boxes.now glyph_items.now 0 0 0) (record { commands = count.commands; glyphs = count.glyphs; clips = count.clips }) }
 {
     let command_room = (items.len() / 2).min(item_boxes.len() / 4) as u64;
     let glyph_room = glyph_items.len() as u64;
@@ -204,7 +204,7 @@ pub fn draft_frame(
     words: &mut [u32],
 ) -> Result<Plan, Refusal>
     requires { Roomy rects.old work.old regions.old words.old room.rects room.regions room.words }
-    ensures answer { result ≡ answer_of (lent boxes.old below.old items.old item_boxes.old glyph_items.now room.rects room.regions room.words) (outcome entry s.now) }
+    ensures answer { result ≡ answer_of (lent_scratch boxes.old below.old items.old item_boxes.old glyph_items.now room.rects room.regions room.words) (outcome entry s.now) }
     ensures stands { StandsFor result (outcome entry s.now) rects.new regions.new words.new }
 {
     let screen = frame::read_header(s)?;

@@ -25,14 +25,14 @@ use Rattle.changes.specs.Changes.{diff_dirty}
 use Rattle.strip.specs.declared.Cursor.{Cursor}
 use Rattle.strip.specs.Reading.{read_strip, commands_of}
 use Rattle.screen.specs.Sizes.{size_fits}
-use Rattle.screen.proofs.Laws.{size_of}
+use Rattle.screen.proofs.Laws.{size_limits}
 use Rattle.frame.specs.Frame.{header_of, ended, with_old, then_new, then_end, first_of, both_of}
 use Rattle.frame.proofs.Checks.{both_next}
 use Rattle.plans.specs.declared.Plan.{Plan}
 use Rattle.plans.specs.Drafts.{Outcome, turned, drafted, on_first, on_both, on_header, first_outcome, next_outcome}
 use Rattle.plans.specs.Space.{Slices, Lent, lent_of}
-use Rattle.plans.specs.Answers.{answer_of, accepted, published, index_words as words_of}
-use Rattle.panels.specs.Entries.{call_of, regions_of, entries, EntriesAgree}
+use Rattle.plans.specs.Answers.{answer_of, accepted, published, index_words_of}
+use Rattle.panels.specs.Entries.{call_of, drafted_regions, entries, EntriesAgree}
 use Rattle.panels.proofs.Plans.{boxes_since, GoodLast, Call, Plans}
 use Rattle.panels.proofs.Panels.{plans_agree}
 use Rattle.panels.proofs.Strips.{OneStrip, strip_sound, ends_there, as_alone, one_strip, old_read, old_list}
@@ -40,9 +40,9 @@ use Rattle.panels.proofs.Strips.{OneStrip, strip_sound, ends_there, as_alone, on
 -- ---- the sizes
 sizes_fit : (w h b : ℕ) → size_fits w ≡ true → size_fits h ≡ true → size_fits b ≡ true → Sizes w h b
 sizes_fit w h b e f g =
-    let x = size_of w e in
-    let y = size_of h f in
-    let z = size_of b g in
+    let x = size_limits w e in
+    let y = size_limits h f in
+    let z = size_limits b g in
     record { some_width = x.0; width_most = x.1; some_height = y.0; height_most = y.1; some_band = z.0; band_most = z.1 }
 
 module _ (header : List ℕ) (twelve : length header ≡ 12) where
@@ -82,8 +82,8 @@ module _ (header : List ℕ) (twelve : length header ≡ 12) where
   record Drafted (last : Option (List ℕ)) (s : List ℕ) (x : Outcome) : Type 0 where
     sizes : Sizes w h b
     alone : OneStrip header s
-    regions : regions_of x ≡ schedule w h b (boxes_since commands w h last s)
-    words : words_of x ≡ index_words b (row_count h b) (map bounds (commands s))
+    regions : drafted_regions x ≡ schedule w h b (boxes_since commands w h last s)
+    words : index_words_of x ≡ index_words b (row_count h b) (map bounds (commands s))
 
   abbrev WhereDrafted : Option (List ℕ) → List ℕ → Outcome → Type 0
   WhereDrafted last s (turned why) = Unit {0}
@@ -155,8 +155,8 @@ module _ (header : List ℕ) (twelve : length header ≡ 12) where
     regions = λ last s z c. (call_made last s z c).regions;
     words = λ last s z c.
         let x = call_of header last s in (
-          drop (length (words_of x)) z.words,
-          words_behind (answer_of (lent_of z) x) (words_of x) z.words c.no_number ∙ ap (λ (l : List ℕ). l ++ drop (length (words_of x)) z.words) (call_made last s z c).words,
+          drop (length (index_words_of x)) z.words,
+          words_behind (answer_of (lent_of z) x) (index_words_of x) z.words c.no_number ∙ ap (λ (l : List ℕ). l ++ drop (length (index_words_of x)) z.words) (call_made last s z c).words,
         );
   }
 

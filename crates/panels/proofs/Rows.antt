@@ -29,8 +29,8 @@ use Rattle.frame.specs.declared.Strips.{Strips}
 use Rattle.frame.specs.Frame.{first_of, both_of}
 use Rattle.plans.specs.Drafts.{Outcome, turned, drafted, screen_rect, on_first, on_both, first_outcome, next_outcome}
 use Rattle.plans.specs.Space.{Lent, lent_of}
-use Rattle.plans.specs.Answers.{answer_of, accepted, index_words as words_of}
-use Rattle.panels.specs.Entries.{call_of, regions_of}
+use Rattle.plans.specs.Answers.{answer_of, accepted, index_words_of}
+use Rattle.panels.specs.Entries.{call_of, drafted_regions}
 use Rattle.panels.specs.Rows.{RowAlike, SameRows}
 use Rattle.panels.proofs.Entries.{by_header, words_behind}
 
@@ -49,8 +49,8 @@ module _ (header : List ℕ) (twelve : length header ≡ 12) where
     sizes : Sizes w h b
     rects : List Rect
     boxes : List Rect
-    regions_are : regions_of x ≡ schedule w h b rects
-    words_are : words_of x ≡ index_words b (row_count h b) boxes
+    regions_are : drafted_regions x ≡ schedule w h b rects
+    words_are : index_words_of x ≡ index_words b (row_count h b) boxes
 
   abbrev WhereDrawn : Outcome → Type 0
   WhereDrawn (turned why) = Unit {0}
@@ -82,23 +82,23 @@ module _ (header : List ℕ) (twelve : length header ≡ 12) where
   drawn z (turned why) m e = absurd (true≢false (sym e))
   drawn z (drafted i d) m e = m
 
-  module _ (x : Outcome) (m : Drawn x) (rest others tail : List ℕ) (whole : others ≡ words_of x ++ tail) where
-    row_alike : (r : DeviceRegion) → Placed w h b r → RowAlike header (words_of x ++ rest) others r
+  module _ (x : Outcome) (m : Drawn x) (rest others tail : List ℕ) (whole : others ≡ index_words_of x ++ tail) where
+    row_alike : (r : DeviceRegion) → Placed w h b r → RowAlike header (index_words_of x ++ rest) others r
     row_alike r p =
         let y : r.y < h = omega (arith, p.on.some_height, p.on.down) in
-        let row : (t : List ℕ) → candidates w h b r.y (words_of x ++ t) ≡ row_list b (row_count h b) m.boxes (r.y / b)
+        let row : (t : List ℕ) → candidates w h b r.y (index_words_of x ++ t) ≡ row_list b (row_count h b) m.boxes (r.y / b)
         = λ t. ap (λ (l : List ℕ). candidates w h b r.y (l ++ t)) m.words_are ∙ plan_row w h b r.y m.boxes t (width_size m.sizes) (height_size m.sizes) (band_size m.sizes) y in
         record {
           answered = ap (λ (l : List ℕ). refusal w h b r.y (l ++ rest)) m.words_are ∙ plan_accepted w h b r.y m.boxes rest (width_size m.sizes) (height_size m.sizes) (band_size m.sizes) y;
           alike = row rest ∙ sym (row tail) ∙ ap (candidates w h b r.y) (sym whole);
         }
 
-    rows_alike : All (RowAlike header (words_of x ++ rest) others) (regions_of x)
-    rows_alike = all_map (Placed w h b) (RowAlike header (words_of x ++ rest) others) row_alike (regions_of x)
+    rows_alike : All (RowAlike header (index_words_of x ++ rest) others) (drafted_regions x)
+    rows_alike = all_map (Placed w h b) (RowAlike header (index_words_of x ++ rest) others) row_alike (drafted_regions x)
         (subst (All (Placed w h b)) (sym m.regions_are) (boxes_schedulable m.sizes m.rects).placed)
 
 pub same_rows : SameRows
 same_rows header twelve last s z e rest =
     let x = call_of header last s in
-    rows_alike header twelve x (drawn header twelve (lent_of z) x (call_drawn header twelve last s) e) rest _ (drop (length (words_of x)) z.words)
-    (words_behind header twelve (answer_of (lent_of z) x) (words_of x) z.words e)
+    rows_alike header twelve x (drawn header twelve (lent_of z) x (call_drawn header twelve last s) e) rest _ (drop (length (index_words_of x)) z.words)
+    (words_behind header twelve (answer_of (lent_of z) x) (index_words_of x) z.words e)

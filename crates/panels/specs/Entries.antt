@@ -7,7 +7,7 @@ use Rattle.device.specs.declared.DeviceRegion.{DeviceRegion}
 use Rattle.strip.specs.Reading.{commands_of}
 use Rattle.plans.specs.Drafts.{Outcome, turned, drafted, first_outcome, next_outcome}
 use Rattle.plans.specs.Space.{Slices, lent_of}
-use Rattle.plans.specs.Answers.{answer_of, accepted, index_words, published}
+use Rattle.plans.specs.Answers.{answer_of, accepted, index_words_of, published}
 use Rattle.panels.specs.Panels.{Planner, PanelsAgree}
 
 -- "Until one is accepted, the first-frame entry gets header and strip; then the other entry gets header, last accepted strip and strip."
@@ -16,9 +16,9 @@ call_of header none s = first_outcome (header ++ s)
 call_of header (some old) s = next_outcome (header ++ (old ++ s))
 
 -- the regions of an accepted call
-abbrev pub regions_of : Outcome → List DeviceRegion
-regions_of (turned why) = []
-regions_of (drafted i d) = d.regions
+abbrev pub drafted_regions : Outcome → List DeviceRegion
+drafted_regions (turned why) = []
+drafted_regions (drafted i d) = d.regions
 
 -- strips of any bytes, any lent space; the index words are those that the call leaves in the space lent for them
 abbrev pub entries : List ℕ → Planner
@@ -28,8 +28,8 @@ entries header =
       Space = Slices;
       accepted = λ last s z. accepted (answer_of (lent_of z) (call_of header last s));
       commands = λ s. commands_of (header ++ s) 12;
-      regions = λ last s z. regions_of (call_of header last s);
-      words = λ last s z. published (answer_of (lent_of z) (call_of header last s)) (index_words (call_of header last s)) z.words;
+      regions = λ last s z. drafted_regions (call_of header last s);
+      words = λ last s z. published (answer_of (lent_of z) (call_of header last s)) (index_words_of (call_of header last s)) z.words;
     }
 
 -- Demand 3: under every header, "width, height, band height, u32 each". The proof does not use the glyph rule, for a glyph is painted by its key, which

@@ -7,7 +7,7 @@ use Rattle.little_endian.specs.Words.{u32_at}
 use Rattle.device.specs.declared.DeviceRegion.{DeviceRegion}
 use Rattle.candidates.specs.Table.{candidates, refusal}
 use Rattle.plans.specs.Space.{Slices, lent_of}
-use Rattle.plans.specs.Answers.{answer_of, accepted, index_words}
+use Rattle.plans.specs.Answers.{answer_of, accepted, index_words_of}
 use Rattle.panels.specs.Entries.{call_of, entries}
 
 -- under a header, a region has its row in some words, and it is the row that it has in others
@@ -23,4 +23,4 @@ SameRows =
     (header : List ℕ) → length header ≡ 12 → (last : Option (List ℕ)) (s : List ℕ) (z : Slices)
     → accepted (answer_of (lent_of z) (call_of header last s)) ≡ true
     → (rest : List ℕ)
-    → All (RowAlike header (index_words (call_of header last s) ++ rest) ((entries header).words last s z)) ((entries header).regions last s z)
+    → All (RowAlike header (index_words_of (call_of header last s) ++ rest) ((entries header).words last s z)) ((entries header).regions last s z)

@@ -10,7 +10,7 @@ use Rattle.refusals.specs.declared.Fault.TheVariants.{NoRoom}
 use Rattle.refusals.specs.declared.Refusal.{Refusal}
 use Rattle.refusals.specs.Table.{refused}
 use Rattle.lists.specs.Pick.{pick}
-use Rattle.scheduler.specs.Schedule.{words_of, regions_to}
+use Rattle.scheduler.specs.Schedule.{words_of_regions, regions_to}
 use Rattle.scheduler.proofs.Reading.{regions_back}
 use Rattle.frame_drafts.specs.declared.Entry.{Entry}
 use Rattle.frame_drafts.specs.declared.Entry.TheVariants.{First, Next}
@@ -18,8 +18,8 @@ use Rattle.frame_drafts.specs.Scratch.{outcome}
 use Rattle.plans.specs.declared.Plan.{Plan}
 use Rattle.plans.specs.Drafts.{Draft, Outcome, turned, drafted, first_outcome, next_outcome}
 use Rattle.plans.specs.Space.{Slices, Lent, lent_of}
-use Rattle.plans.specs.Answers.{items_fit, draft_fits, counts, answer_of, accepted, counts_of, Answered, region_words, index_words, published}
-use Rattle.panels.specs.Entries.{call_of, regions_of}
+use Rattle.plans.specs.Answers.{items_fit, draft_fits, counts, answer_of, accepted, counts_of, Answered, region_words_of, index_words_of, published}
+use Rattle.panels.specs.Entries.{call_of, drafted_regions}
 use Rattle.panels_calls.specs.Calls.{Called, CalledAs, CalledFirst, CalledNext}
 
 -- an accepted answer is a plan with the counts of its draft
@@ -28,23 +28,23 @@ planned true d e = refl
 planned false d e = absurd (true≢false (sym e))
 
 -- the regions that an accepted call leaves in their slice, read back
-regions_left : (z : Lent) (x : Outcome) (old : List ℕ) → accepted (answer_of z x) ≡ true → regions_to (published (answer_of z x) (region_words x) old) (counts_of (answer_of z x)).regions ≡ regions_of x
+regions_left : (z : Lent) (x : Outcome) (old : List ℕ) → accepted (answer_of z x) ≡ true → regions_to (published (answer_of z x) (region_words_of x) old) (counts_of (answer_of z x)).regions ≡ drafted_regions x
 regions_left z (turned why) old e = absurd (true≢false (sym e))
 regions_left z (drafted i d) old e =
-    ap (λ (p : Result Plan Refusal). regions_to (published p (words_of d.regions) old) (counts_of p).regions) (planned (items_fit z i && draft_fits z d) d e)
-    ∙ regions_back d.regions (drop (length (words_of d.regions)) old)
+    ap (λ (p : Result Plan Refusal). regions_to (published p (words_of_regions d.regions) old) (counts_of p).regions) (planned (items_fit z i && draft_fits z d) d e)
+    ∙ regions_back d.regions (drop (length (words_of_regions d.regions)) old)
 
 module _ (header : List ℕ) (last : Option (List ℕ)) (s : List ℕ) (before after : Slices) (r : Result Plan Refusal) where
-  called : (x : Outcome) → x ≡ call_of header last s → r ≡ answer_of (lent_of before) x → after.regions ≡ published r (region_words x) before.regions → after.words ≡ published r (index_words x) before.words → Called header last s before after r
+  called : (x : Outcome) → x ≡ call_of header last s → r ≡ answer_of (lent_of before) x → after.regions ≡ published r (region_words_of x) before.regions → after.words ≡ published r (index_words_of x) before.words → Called header last s before after r
   called x q a g k =
       let e : r ≡ answer_of (lent_of before) (call_of header last s) = a ∙ ap (answer_of (lent_of before)) q in
       record {
         accepts = ap accepted e;
         regions = λ t.
             (λ j. regions_to (g j) (counts_of r).regions)
-            ∙ (λ j. regions_to (published (e j) (region_words (q j)) before.regions) (counts_of (e j)).regions)
+            ∙ (λ j. regions_to (published (e j) (region_words_of (q j)) before.regions) (counts_of (e j)).regions)
             ∙ regions_left (lent_of before) (call_of header last s) before.regions (sym (ap accepted e) ∙ t);
-        words = k ∙ (λ j. published (e j) (index_words (q j)) before.words);
+        words = k ∙ (λ j. published (e j) (index_words_of (q j)) before.words);
       }
 
 module _ (input : List ℕ) (before after : Slices) (r : Result Plan Refusal) where
@@ -55,6 +55,6 @@ module _ (input : List ℕ) (before after : Slices) (r : Result Plan Refusal) wh
   pub as_next : ◌≡◌ {A = Type 0} (CalledAs Next input before after r) (CalledNext input before after r)
   as_next = refl
 
-  pub called_as : (entry : Entry) → Answered (lent_of before) (outcome entry input) r → after.regions ≡ published r (region_words (outcome entry input)) before.regions → after.words ≡ published r (index_words (outcome entry input)) before.words → CalledAs entry input before after r
+  pub called_as : (entry : Entry) → Answered (lent_of before) (outcome entry input) r → after.regions ≡ published r (region_words_of (outcome entry input)) before.regions → after.words ≡ published r (index_words_of (outcome entry input)) before.words → CalledAs entry input before after r
   called_as First a g k = λ header s e. called header none s before after r (first_outcome input) (ap first_outcome e) a.plan g k
   called_as Next a g k = λ header old s e. called header (some old) s before after r (next_outcome input) (ap next_outcome e) a.plan g k

@@ -14,12 +14,12 @@ use Rattle.commands.specs.Bounds.{Command}
 use Rattle.scheduler.specs.Schedule.{pixels_of}
 use Rattle.runtime.specs.Work.{work_of}
 use Rattle.plans.specs.Space.{Slices, lent_of}
-use Rattle.plans.specs.Answers.{items_fit, draft_fits, planned, answer_of, accepted, index_words, published}
+use Rattle.plans.specs.Answers.{items_fit, draft_fits, planned, answer_of, accepted, index_words_of, published}
 use Rattle.painting.specs.Painters.{Pixel, Rules, GlyphRule}
 use Rattle.painting.proofs.Fewer.{rules_fewer}
 use Rattle.painting.proofs.GlyphRules.{glyph_rule}
 use Rattle.panels.specs.Panels.{Planner, Frame, Ordering, Used, Orders, paint_whole, paint_regions, State, start, step}
-use Rattle.panels.specs.Entries.{regions_of}
+use Rattle.panels.specs.Entries.{drafted_regions}
 use Rattle.panels.proofs.Frames.{used_none, used_accepted, used_refused, orders_accepted, orders_refused, step_accepted, step_refused}
 use Rattle.panels_examples.specs.Pages.{strip, cell, page_one, page_two}
 use Rattle.panels_examples.specs.Frames.{P, room, first, cut, crowded, turn, upper, lower, paint, mark}
@@ -50,11 +50,11 @@ unfolding items_fit draft_fits pixels_of
 turn_planned = ap (answer_of (lent_of (room 7))) worked.turn
 
 pub turn_regions : P.regions (some one) two (room 7) ≡ upper ∷ lower ∷ []
-turn_regions = ap regions_of worked.turn
+turn_regions = ap drafted_regions worked.turn
 
 -- the index, and the word that was lent behind it
 pub turn_words : P.words (some one) two (room 7) ≡ index ++ 0 ∷ []
-turn_words = λ i. published (turn_planned i) (index_words (worked.turn i)) (room 7).words
+turn_words = λ i. published (turn_planned i) (index_words_of (worked.turn i)) (room 7).words
 
 -- ---- the frames, with these regions and words, and this order of the last one's regions
 module _ (R : Option (List ℕ) → List ℕ → Slices → List DeviceRegion) (W : Option (List ℕ) → List ℕ → Slices → List ℕ) (order : List DeviceRegion) where

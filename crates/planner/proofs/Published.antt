@@ -21,14 +21,14 @@ use Rattle.scheduler.proofs.Writes.{words_length}
 use Rattle.plans.specs.declared.Plan.{Plan}
 use Rattle.plans.specs.Drafts.{Draft, Items, Outcome, turned, drafted}
 use Rattle.plans.specs.Space.{Lent}
-use Rattle.plans.specs.Answers.{items_fit, draft_fits, counts, answer_of, rect_words, region_words, index_words, published}
+use Rattle.plans.specs.Answers.{items_fit, draft_fits, counts, answer_of, rect_words_of, region_words_of, index_words_of, published}
 use Rattle.drafting.specs.Drafted.{Stands}
-use Rattle.frame_drafts.specs.Scratch.{StandsFor, lent}
+use Rattle.frame_drafts.specs.Scratch.{StandsFor, lent_scratch}
 use Rattle.planner.specs.Calls.{rect_count, region_count, word_count, Copies}
 
 -- a rectangle has four words
-rects_length : (l : List Rect) → length (Rects.words_of l) ≡ 4 * length l
-unfolding Rects.words_of
+rects_length : (l : List Rect) → length (Rects.words_of_rects l) ≡ 4 * length l
+unfolding Rects.words_of_rects
 rects_length [] = refl
 rects_length (r ∷ l) = omega (arith, rects_length l)
 
@@ -64,9 +64,9 @@ answer_fits z (drafted i d) =
 module _ (z : Lent) (o : Outcome) (r : Result Plan Refusal) (a : r ≡ answer_of z o) (rs : List Float) (gs ws : List ℕ) (s : StandsFor r o rs gs ws) (old-rs : List Float) (old-gs old-ws : List ℕ) where
   abbrev Publishes : Outcome → Result Plan Refusal → Type 0
   Publishes o r =
-      (take (rect_count r) rs ++ drop (rect_count r) old-rs ≡ published r (rect_words o) old-rs)
-      × ((take (region_count r) gs ++ drop (region_count r) old-gs ≡ published r (region_words o) old-gs)
-      × (take (word_count r) ws ++ drop (word_count r) old-ws ≡ published r (index_words o) old-ws))
+      (take (rect_count r) rs ++ drop (rect_count r) old-rs ≡ published r (rect_words_of o) old-rs)
+      × ((take (region_count r) gs ++ drop (region_count r) old-gs ≡ published r (region_words_of o) old-gs)
+      × (take (word_count r) ws ++ drop (word_count r) old-ws ≡ published r (index_words_of o) old-ws))
 
   draft_published : (i : Items) (d : Draft) → Stands d rs gs ws → Publishes (drafted i d) (counts d)
   draft_published i d t = (
@@ -91,9 +91,9 @@ module _ (z : Lent) (o : Outcome) (r : Result Plan Refusal) (a : r ≡ answer_of
 -- ---- a call
 -- the rooms that a call works out are the space lent: what stands in scratch after the draft can be copied
 pub copies :
-    (rs drs : List Float) (work spare gs dgs ws dws : List ℕ) (R G W : ℕ) → R ≡ min (min (length rs / 4) (length drs / 4)) (min (length work) (length spare)) → G ≡ min (length gs / 4) (length dgs / 4) → W ≡ min (length ws) (length dws) → (bs : List Float) (ns is : List ℕ) (ibs : List Float) (glyphs : List ℕ) (o : Outcome) (r : Result Plan Refusal) → r ≡ answer_of (lent bs ns is ibs glyphs R G W) o → (drs' : List Float) (dgs' dws' : List ℕ) → length drs' ≡ length drs → length dgs' ≡ length dgs → length dws' ≡ length dws → Copies r drs' dgs' dws' rs gs ws
+    (rs drs : List Float) (work spare gs dgs ws dws : List ℕ) (R G W : ℕ) → R ≡ min (min (length rs / 4) (length drs / 4)) (min (length work) (length spare)) → G ≡ min (length gs / 4) (length dgs / 4) → W ≡ min (length ws) (length dws) → (bs : List Float) (ns is : List ℕ) (ibs : List Float) (glyphs : List ℕ) (o : Outcome) (r : Result Plan Refusal) → r ≡ answer_of (lent_scratch bs ns is ibs glyphs R G W) o → (drs' : List Float) (dgs' dws' : List ℕ) → length drs' ≡ length drs → length dgs' ≡ length dgs → length dws' ≡ length dws → Copies r drs' dgs' dws' rs gs ws
 copies rs drs work spare gs dgs ws dws R G W rect_room region_room word_room bs ns is ibs glyphs o r a drs' dgs' dws' p q t =
-    let f : Fits (lent bs ns is ibs glyphs R G W) r = subst (Fits (lent bs ns is ibs glyphs R G W)) (sym a) (answer_fits (lent bs ns is ibs glyphs R G W) o) in
+    let f : Fits (lent_scratch bs ns is ibs glyphs R G W) r = subst (Fits (lent_scratch bs ns is ibs glyphs R G W)) (sym a) (answer_fits (lent_scratch bs ns is ibs glyphs R G W) o) in
     record {
       from_rects = omega (arith, f.rects, rect_room, p);
       from_regions = omega (arith, f.regions, region_room, q);

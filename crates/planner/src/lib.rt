@@ -100,9 +100,9 @@ pub fn plan(
     draft_words: &mut [u32],
 ) -> Result<Plan, Refusal>
     ensures answer { Answers.Answered (lent_of (slices rects.old regions.old words.old boxes.old below.old items.old item_boxes.old glyph_items.old draft_rects.old work.old spare.old draft_regions.old draft_words.old)) (outcome entry input.now) result }
-    ensures rectangles { rects.new ≡ Answers.published result (Answers.rect_words (outcome entry input.now)) rects.old }
-    ensures scheduled { regions.new ≡ Answers.published result (Answers.region_words (outcome entry input.now)) regions.old }
-    ensures index { words.new ≡ Answers.published result (Answers.index_words (outcome entry input.now)) words.old }
+    ensures rectangles { rects.new ≡ Answers.published result (Answers.rect_words_of (outcome entry input.now)) rects.old }
+    ensures scheduled { regions.new ≡ Answers.published result (Answers.region_words_of (outcome entry input.now)) regions.old }
+    ensures index { words.new ≡ Answers.published result (Answers.index_words_of (outcome entry input.now)) words.old }
     ensures scratch { (ZeroFloats boxes.old boxes.new) × (Zeros below.old below.new) × (Zeros items.old items.new) × (ZeroFloats item_boxes.old item_boxes.new) × (Zeros glyph_items.old glyph_items.new) × (ZeroFloats draft_rects.old draft_rects.new) × (Zeros work.old work.new) × (Zeros spare.old spare.new) × (Zeros draft_regions.old draft_regions.new) × (Zeros draft_words.old draft_words.new) }
 {
     let room = Room {

@@ -58,8 +58,8 @@ module _ (d e : Draft) (s : SameDraft d e) where
   answer_same z i j f = λ k. pick (f k && fits_same z k) (counts_same k) (refused NoRoom 0)
 
 -- ---- the words of rectangles
-pub rect_words_same : (l m : List Rect) → SameBoxes l m → ByPlace Same (Rects.words_of l) (Rects.words_of m)
-unfolding Rects.words_of ByPlace
+pub rect_words_same : (l m : List Rect) → SameBoxes l m → ByPlace Same (Rects.words_of_rects l) (Rects.words_of_rects m)
+unfolding Rects.words_of_rects ByPlace
 rect_words_same [] [] h = tt
 rect_words_same [] (b ∷ m) h = absurd h
 rect_words_same (a ∷ l) [] h = absurd h

@@ -94,17 +94,17 @@ pub record Answered (z : Lent) (o : Outcome) (r : Result Plan Refusal) : Type 0 
 
 -- ---- output
 -- the words of a draft; asked of accepted calls alone
-abbrev pub rect_words : Outcome → List Float
-rect_words (turned why) = []
-rect_words (drafted i d) = Rects.words_of d.rects
+abbrev pub rect_words_of : Outcome → List Float
+rect_words_of (turned why) = []
+rect_words_of (drafted i d) = Rects.words_of_rects d.rects
 
-abbrev pub region_words : Outcome → List ℕ
-region_words (turned why) = []
-region_words (drafted i d) = Schedule.words_of d.regions
+abbrev pub region_words_of : Outcome → List ℕ
+region_words_of (turned why) = []
+region_words_of (drafted i d) = Schedule.words_of_regions d.regions
 
-abbrev pub index_words : Outcome → List ℕ
-index_words (turned why) = []
-index_words (drafted i d) = d.words
+abbrev pub index_words_of : Outcome → List ℕ
+index_words_of (turned why) = []
+index_words_of (drafted i d) = d.words
 
 -- "After a refusal, output space is unchanged; after acceptance, so is output space past the count."
 abbrev pub published : {A : Type 0} → Result Plan Refusal → List A → List A → List A

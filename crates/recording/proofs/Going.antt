@@ -18,7 +18,7 @@ use Rattle.clips.specs.Chains.{chain, Clips}
 use Rattle.clips.proofs.Chaining.{chain_none}
 use Rattle.strip_format.specs.Format.{rect_at, command_at}
 use Rattle.display_list.specs.declared.ListState.{ListState}
-use Rattle.display_list.specs.Lists.{pushed_clip, clip_boxes, clip_numbers, popped_clip, open_rect, pushed, item_words, item_boxes, offset_at, clip_number_at, box_at}
+use Rattle.display_list.specs.Lists.{pushed_clip, clip_boxes, clip_numbers, popped_clip, open_rect, pushed, item_words, item_boxes, offset_at, clip_number_at}
 use Rattle.display_list.proofs.Holding.{Held, held_push, held_pop, push_keeps, open_rect_is, length_boxes, length_numbers}
 use Rattle.display_list.proofs.Items.{push_offset, push_number, push_box, offset_kept, number_kept, box_kept, length_items, length_item_boxes}
 use Rattle.strip.specs.declared.Cursor.{Cursor}
@@ -36,6 +36,7 @@ use Rattle.strip_laws.proofs.Boxes.{glyphs_of, Boxed, step_boxed}
 use Rattle.stored_lists.specs.Stored.{command_in, commands_in}
 use Rattle.recording.specs.Recorded.{Space, space, SameLengths, Room, Holds, Recorded, Records}
 use Rattle.recording.proofs.Lists.{lists_alike, list_last, list_none}
+use Rattle.rect_words.specs.Words.{box_at}
 
 -- ---- the cursor beside the listing
 -- as many clips are open, and as many commands counted; of a run whose glyphs are due the command is counted before it is listed

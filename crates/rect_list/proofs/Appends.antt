@@ -14,7 +14,7 @@ use Rattle.lists.specs.Pick.{pick}
 use Rattle.geometry.specs.declared.Rect.{Rect}
 use Rattle.rect_words.specs.Words.{put_rect}
 use Rattle.rect_words.proofs.Stores as Stores
-use Rattle.rect_list.specs.Rects.{Filled, filled, put, after, Added, words_of, Listed}
+use Rattle.rect_list.specs.Rects.{Filled, filled, put, after, Added, words_of_rects, Listed}
 
 pub after_append : (f : Filled) (a b : List Rect) → after f (a ++ b) ≡ after (after f a) b
 unfolding after
@@ -76,8 +76,8 @@ length_after f [] = refl
 length_after f (r ∷ l) = length_after (put f r) l ∙ length_put f r
 
 -- if they fitted, the words are those before and then the list's
-after_words : (f : Filled) (l : List Rect) → 4 * (f.count + length l) ≤ length f.words → take (4 * (f.count + length l)) (after f l).words ≡ take (4 * f.count) f.words ++ words_of l
-unfolding after words_of
+after_words : (f : Filled) (l : List Rect) → 4 * (f.count + length l) ≤ length f.words → take (4 * (f.count + length l)) (after f l).words ≡ take (4 * f.count) f.words ++ words_of_rects l
+unfolding after words_of_rects
 after_words f [] h =
     let z : f.count + 0 ≡ f.count = omega arith in
     rw z (sym (append-nil (take (4 * f.count) f.words)))
@@ -87,9 +87,9 @@ after_words f (r ∷ l) h =
     let m : 4 * (put f r).count ≡ 4 * f.count + 4 = omega arith in
     ap (λ k. take (4 * k) (after (put f r) l).words) (sym n)
     ∙ after_words (put f r) l (omega (arith, length_put f r))
-    ∙ ap (λ k. take k (put f r).words ++ words_of l) m
-    ∙ ap (λ q. q ++ words_of l) (put_words f r (omega arith))
-    ∙ append_assoc (take (4 * f.count) f.words) (four r) (words_of l)
+    ∙ ap (λ k. take k (put f r).words ++ words_of_rects l) m
+    ∙ ap (λ q. q ++ words_of_rects l) (put_words f r (omega arith))
+    ∙ append_assoc (take (4 * f.count) f.words) (four r) (words_of_rects l)
 
 after_rest : (f : Filled) (l : List Rect) (k : ℕ) → 4 * (f.count + length l) ≤ k → drop k (after f l).words ≡ drop k f.words
 unfolding after
@@ -106,7 +106,7 @@ module _ (k : ℕ) (xs : List Float) (n : ℕ) (l : List Rect) (ys : List Float)
   pub added_length : length ys ≡ length xs
   added_length = ap (λ (f : Filled). length f.words) a.state ∙ length_after (filled xs n) l
 
-  added_words : 4 * m ≤ length xs → take (4 * m) ys ≡ take (4 * n) xs ++ words_of l
+  added_words : 4 * m ≤ length xs → take (4 * m) ys ≡ take (4 * n) xs ++ words_of_rects l
   added_words h =
       ap (λ (f : Filled). take (4 * f.count) f.words) a.state
       ∙ ap (λ c. take (4 * c) (after (filled xs n) l).words) (count_after (filled xs n) l)

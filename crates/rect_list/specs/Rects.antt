@@ -33,13 +33,13 @@ pub record AddedTo (k : ℕ) (old : RectList) (l : List Rect) (new : RectList) :
   pub same_place : new.words.ghost_name ≡ old.words.ghost_name
 
 -- the words of a list of boxes
-unfoldable pub words_of : List Rect → List Float
-words_of [] = []
-words_of (r ∷ l) = r.x0 ∷ r.y0 ∷ r.x1 ∷ r.y1 ∷ words_of l
+unfoldable pub words_of_rects : List Rect → List Float
+words_of_rects [] = []
+words_of_rects (r ∷ l) = r.x0 ∷ r.y0 ∷ r.x1 ∷ r.y1 ∷ words_of_rects l
 
 -- ys holds the m boxes of l where xs had room for them all; their number is told in any case, and no word behind them changes
 pub record Listed (xs : List Float) (l : List Rect) (ys : List Float) (m : ℕ) : Type 0 where
   pub count : m ≡ length l
-  pub words : 4 * m ≤ length xs → take (4 * m) ys ≡ words_of l
+  pub words : 4 * m ≤ length xs → take (4 * m) ys ≡ words_of_rects l
   pub rest : drop (4 * m) ys ≡ drop (4 * m) xs
   pub size : length ys ≡ length xs

@@ -8,7 +8,7 @@ use lib.Seq.{get_or-set_same, get_or-set_other}
 use lib.Ieee.{Float, nan}
 use Rattle.geometry.specs.declared.Rect.{Rect}
 use Rattle.geometry.specs.Boxes.{edges}
-use Rattle.rect_words.specs.Words.{rect_at, put_rect}
+use Rattle.rect_words.specs.Words.{rect_from, put_rect}
 
 pub length_put : (ws : List Float) (i : ℕ) (b : Rect) → length (put_rect ws i b) ≡ length ws
 unfolding put_rect
@@ -56,11 +56,11 @@ module _ (ws : List Float) (i : ℕ) (b : Rect) (h : i + 4 ≤ length ws) where
       let f : i + 3 < length (set (set (set ws i b.x0) (i + 1) b.y0) (i + 2) b.x1) = simp length-set (omega arith) in
       simp get_or-set_same
 
-  pub rect_same : rect_at (put_rect ws i b) i ≡ b
+  pub rect_same : rect_from (put_rect ws i b) i ≡ b
   rect_same = λ k. record { x0 = word_x0 k; y0 = word_y0 k; x1 = word_x1 k; y1 = word_y1 k }
 
 -- a box that ends before the stored one
-pub rect_before : (ws : List Float) (i j : ℕ) (b : Rect) → j + 4 ≤ i → rect_at (put_rect ws i b) j ≡ rect_at ws j
+pub rect_before : (ws : List Float) (i j : ℕ) (b : Rect) → j + 4 ≤ i → rect_from (put_rect ws i b) j ≡ rect_from ws j
 rect_before ws i j b h = λ k. record {
   x0 = word_before ws i j b (omega arith) k;
   y0 = word_before ws i (j + 1) b (omega arith) k;

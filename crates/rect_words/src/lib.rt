@@ -7,9 +7,9 @@ ghost use Rattle.rect_words.specs.Words as Words;
 use geometry::Rect;
 
 // The box whose words begin at i.
-pub fn rect_at(words: &[f64], i: usize) -> Rect
+pub fn rect_from(words: &[f64], i: usize) -> Rect
     requires { i + 4 ≤ length words.now }
-    ensures { result ≡ Words.rect_at words.now i }
+    ensures { result ≡ Words.rect_from words.now i }
 {
     Rect::from([words[i], words[i + 1], words[i + 2], words[i + 3]])
 }

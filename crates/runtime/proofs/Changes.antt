@@ -12,12 +12,12 @@ use Rattle.geometry.specs.Boxes.{union}
 use Rattle.commands.specs.declared.Glyph.{Glyph}
 use Rattle.commands.specs.Bounds.{Command, glyph_bounds}
 use Rattle.operand_equality.specs.Operands.{same_glyph}
-use Rattle.display_list.specs.Lists.{box_at}
 use Rattle.changes.specs.Changes.{changed_glyphs, changed_bounds, diff_dirty}
 use Rattle.stored_lists.specs.Stored.{Stored, command_in, commands_in}
 use Rattle.stored_lists.proofs.Places.{commands_end, commands_next}
 use Rattle.glyph_changes.specs.Runs.{boxes_by, changed_at, changed_by}
 use Rattle.runtime.specs.Placed.{boxes_in}
+use Rattle.rect_words.specs.Words.{box_at}
 
 -- ---- runs
 module _ (c d : Command) where

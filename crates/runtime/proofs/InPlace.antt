@@ -27,7 +27,7 @@ use Rattle.operand_equality.specs.Operands.{same_bits, same_glyph, equal_glyph, 
 use Rattle.operand_equality.proofs.Selves.{number_self, float_self, affine_self}
 use Rattle.equality.specs.Drawings.{same_drawing, equal, fills_alike, runs_alike, run_alike, runs_alike_clipped}
 use Rattle.clips.specs.Chains.{chain}
-use Rattle.display_list.specs.Lists.{offset_at, clip_number_at, box_at}
+use Rattle.display_list.specs.Lists.{offset_at, clip_number_at}
 use Rattle.strip_format.specs.Format.{affine_at, run_at, command_at}
 use Rattle.strip_format.proofs.Commands.{command_cases}
 use Rattle.strip_format.proofs.Lengths.{length_run}
@@ -45,6 +45,7 @@ use Rattle.runtime.specs.declared.PlacedCommand.{PlacedCommand}
 use Rattle.runtime.specs.Placed.{Both, placed_at, stands_for, whole_length, Pair, apart, SameRun, RunPair}
 use Rattle.runtime.specs.Placed as Placed
 use Rattle.runtime.proofs.Pairs.{pair_of, changed_are, case_equal, case_runs}
+use Rattle.rect_words.specs.Words.{box_at}
 
 -- ---- what the test tells
 module _ (s : List ℕ) (p q : ℕ) where

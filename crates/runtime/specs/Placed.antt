@@ -6,7 +6,7 @@ use Rattle.geometry.specs.declared.Rect.{Rect}
 use Rattle.commands.specs.Bounds.{Command, transform_of, glyph_count, bounds}
 use Rattle.operand_equality.specs.Operands.{same_clips}
 use Rattle.clips.specs.Chains.{chain, Clips}
-use Rattle.display_list.specs.Lists.{offset_at, clip_number_at, box_at}
+use Rattle.display_list.specs.Lists.{offset_at, clip_number_at}
 use Rattle.equality.specs.Drawings.{same_drawing}
 use Rattle.strip_format.specs.declared.Kind.TheVariants.{Run as RunKind}
 use Rattle.strip_format.specs.Format.{length_of, command_at}
@@ -15,6 +15,7 @@ use Rattle.stored_lists.specs.Stored.{Stored}
 use Rattle.glyph_changes.specs.declared.Run.{Run}
 use Rattle.glyph_changes.specs.Runs.{glyphs_of, Inside}
 use Rattle.runtime.specs.declared.PlacedCommand.{PlacedCommand}
+use Rattle.rect_words.specs.Words.{box_at}
 
 -- two places of a list that the space holds
 pub record Both (i j : ℕ) (s : List ℕ) (bs : List Float) (ns is : List ℕ) (ibs : List Float) : Type 0 where

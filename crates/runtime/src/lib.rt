@@ -10,7 +10,7 @@ ghost use Rattle.operand_equality.specs.Operands.{same_clips};
 ghost use Rattle.clips.specs.Chains.{chain, Rooted};
 ghost use Rattle.equality.specs.Drawings as Drawings;
 ghost use Rattle.differences.specs.Differences.{rect_symmetric_difference};
-ghost use Rattle.display_list.specs.Lists.{offset_at, clip_number_at, box_at};
+ghost use Rattle.display_list.specs.Lists.{offset_at, clip_number_at};
 ghost use Rattle.strip.specs.Reading.{command_of};
 ghost use Rattle.changes.specs.Changes.{changed_bounds, diff_dirty};
 ghost use Rattle.stored_lists.specs.Stored.{Stored, command_in, commands_in};
@@ -19,6 +19,7 @@ ghost use Rattle.glyph_changes.specs.Runs.{most_boxes, windowed, changed_by, gly
 ghost use Rattle.runtime.specs.Placed as Placed;
 ghost use Rattle.runtime.specs.Placed.{Both, placed_at, stands_for, Standing, whole_length, Pair, AlikeClips, SameRun, RunPair, boxes_in};
 ghost use Rattle.runtime.specs.Work.{work_of};
+ghost use Rattle.rect_words.specs.Words.{box_at};
 
 use commands::DrawCommand;
 use geometry::Rect;
@@ -147,7 +148,7 @@ impl ListSpace<'_> {
         requires { 4 * i + 4 ≤ length self.item_boxes.now }
         ensures { result ≡ box_at self.entry.item_boxes.now i }
     {
-        rect_words::rect_at(self.item_boxes, 4 * i)
+        rect_words::rect_from(self.item_boxes, 4 * i)
     }
 
     // The command at a place of the list.

@@ -6,7 +6,7 @@ use Rattle.device.specs.declared.DeviceRegion.{DeviceRegion}
 use Rattle.device.specs.Region.{between, intersect, union}
 use Rattle.bands.specs.Bands.{cut_to, insert_by, sort_by, join_to, join, merge_overlapping}
 use Rattle.std.proofs.Common.{Some, None}
-use Rattle.scheduler.specs.Schedule.{bands_to, schedule_of, pixels_of, words_of, answer_of}
+use Rattle.scheduler.specs.Schedule.{bands_to, schedule_of, pixels_of, words_of_regions, totals_of}
 
 abbrev at : ℕ → ℕ → ℕ → ℕ → DeviceRegion
 at x y w h = record { x = x; y = y; width = w; height = h }
@@ -17,20 +17,20 @@ unfolding bands_to merge_overlapping sort_by insert_by join join_to cut_to inter
 bands = refl
 
 -- their words and their pixels
-words : words_of (at 0 0 8 12 ∷ at 20 15 1 1 ∷ []) ≡ 0 ∷ 0 ∷ 8 ∷ 12 ∷ 20 ∷ 15 ∷ 1 ∷ 1 ∷ []
-unfolding words_of
+words : words_of_regions (at 0 0 8 12 ∷ at 20 15 1 1 ∷ []) ≡ 0 ∷ 0 ∷ 8 ∷ 12 ∷ 20 ∷ 15 ∷ 1 ∷ 1 ∷ []
+unfolding words_of_regions
 words = refl
 
 -- eight words are room for two regions
-room : answer_of (at 0 0 8 12 ∷ at 20 15 1 1 ∷ []) 8 ≡ Some (record { regions = 2; pixels = 97 })
+room : totals_of (at 0 0 8 12 ∷ at 20 15 1 1 ∷ []) 8 ≡ Some (record { regions = 2; pixels = 97 })
 unfolding pixels_of
 room = refl
 
 -- seven are not
-no_room : answer_of (at 0 0 8 12 ∷ at 20 15 1 1 ∷ []) 7 ≡ None
+no_room : totals_of (at 0 0 8 12 ∷ at 20 15 1 1 ∷ []) 7 ≡ None
 no_room = refl
 
 -- and no region needs none
-none : answer_of [] 0 ≡ Some (record { regions = 0; pixels = 0 })
+none : totals_of [] 0 ≡ Some (record { regions = 0; pixels = 0 })
 unfolding pixels_of
 none = refl

@@ -12,7 +12,7 @@ use Rattle.lists.specs.Pick.{pick}
 use Rattle.device.specs.declared.DeviceRegion.{DeviceRegion}
 use Rattle.std.proofs.Common.{Option, Some, None}
 use Rattle.scheduler.specs.declared.Totals.{Totals}
-use Rattle.scheduler.specs.Schedule.{pixels_of, words_of, Answers}
+use Rattle.scheduler.specs.Schedule.{pixels_of, words_of_regions, Answers}
 use Rattle.scheduler.proofs.Writes.{words_length}
 
 -- the counts are the schedule's, its words stand in front, and the rest is as it was
@@ -20,7 +20,7 @@ pub record Listed (l : List DeviceRegion) (before : List ℕ) (count pixels : �
   pub fits : 4 * count ≤ length before
   pub count_is : count ≡ length l
   pub pixels_are : pixels ≡ pixels_of l
-  pub words_are : after ≡ words_of l ++ drop (4 * count) before
+  pub words_are : after ≡ words_of_regions l ++ drop (4 * count) before
 
 module _ (l : List DeviceRegion) (before after : List ℕ) where
   pub answered : (t : Totals) → Answers l before (Some t) after → Listed l before t.regions t.pixels after
@@ -44,6 +44,6 @@ module _ (l : List DeviceRegion) (before after : List ℕ) where
       go false e q = leb-false (length l) (length before / 4) e
 
   -- the words in front
-  pub front_words : (count pixels : ℕ) → Listed l before count pixels after → take (4 * count) after ≡ words_of l
-  front_words count pixels a = ap (take (4 * count)) a.words_are ∙ take_at (words_of l) (drop (4 * count) before) (4 * count) (words_length l ∙ ap (λ t. 4 * t) (sym a.count_is))
+  pub front_words : (count pixels : ℕ) → Listed l before count pixels after → take (4 * count) after ≡ words_of_regions l
+  front_words count pixels a = ap (take (4 * count)) a.words_are ∙ take_at (words_of_regions l) (drop (4 * count) before) (4 * count) (words_length l ∙ ap (λ t. 4 * t) (sym a.count_is))
 

@@ -17,7 +17,7 @@ use Rattle.bands.specs.Bands.{band_regions}
 use Rattle.bands.specs.Keys.{from_yx}
 use Rattle.bands.proofs.Cuts.{band_few}
 use Rattle.std.proofs.Common.{Some, None}
-use Rattle.scheduler.specs.Schedule.{Sizes, band_from, bands_to, schedule_of, pixels_of, words_of, Answers}
+use Rattle.scheduler.specs.Schedule.{Sizes, band_from, bands_to, schedule_of, pixels_of, words_of_regions, Answers}
 use Rattle.scheduler.proofs.Writes.{words_append, words_length, pixels_append, pixels_most, put_behind}
 
 -- ---- rows and bands
@@ -57,7 +57,7 @@ pub record Going (w h b : ℕ) (l : List DeviceRegion) (old out : List ℕ) (j c
   pub count_is : count ≡ length (bands_to w h b l j)
   pub pixels_are : pixels ≡ pixels_of (bands_to w h b l j)
   pub pixels_few : pixels ≤ 140737488355328 * j
-  pub words_are : out ≡ words_of (bands_to w h b l j) ++ drop (4 * count) old
+  pub words_are : out ≡ words_of_regions (bands_to w h b l j) ++ drop (4 * count) old
 
 -- The m regions of band j, in front of `work`.
 pub record Banded (w h b : ℕ) (l : List DeviceRegion) (j : ℕ) (work : List ℕ) (m : ℕ) : Type 0 where
@@ -72,7 +72,7 @@ pub taken : {w h b j m : ℕ} {l : List DeviceRegion} {work : List ℕ} → Band
 taken {m = m} {work = work} n = length-take-le m work n.source
 
 pub going_start : (w h b : ℕ) (l : List DeviceRegion) (old : List ℕ) → Sizes w h b → All Fit l → Going w h b l old old 0 0 0
-unfolding bands_to words_of pixels_of
+unfolding bands_to words_of_regions pixels_of
 going_start w h b l old s f = record {
   sizes = s;
   all_fit = f;
@@ -124,7 +124,7 @@ module _ {w h b : ℕ} {l : List DeviceRegion} {old out : List ℕ} {j count pix
         record { answer = sym (simp (lt-leb (length (schedule_of w h b l)) (length old / 4) big)); words = λ z. absurd (omega arith) }
 
     -- they fit, and are written
-    pub going_next : m ≤ length old / 4 - count → (p : ℕ) → p ≡ pixels_of (map from_yx (take m work)) → (next : List ℕ) → length next ≡ length out → next ≡ take (4 * count) out ++ words_of (map from_yx (take m work)) ++ drop (4 * (count + m)) out → Going w h b l old next (j + 1) (count + m) (pixels + p)
+    pub going_next : m ≤ length old / 4 - count → (p : ℕ) → p ≡ pixels_of (map from_yx (take m work)) → (next : List ℕ) → length next ≡ length out → next ≡ take (4 * count) out ++ words_of_regions (map from_yx (take m work)) ++ drop (4 * (count + m)) out → Going w h b l old next (j + 1) (count + m) (pixels + p)
     going_next fits p ep next len e =
         let z : 4 * (count + m) ≡ 4 * count + 4 * m = omega arith in
         record {
@@ -136,8 +136,8 @@ module _ {w h b : ℕ} {l : List DeviceRegion} {old out : List ℕ} {j count pix
           count_is = count_more;
           pixels_are = omega (arith, g.pixels_are, ep, ap pixels_of one_more, pixels_append (bands_to w h b l j) (map from_yx (take m work)));
           pixels_few = omega (arith, g.pixels_few, p_few p ep);
-          words_are = e ∙ rw z (put_behind (words_of (bands_to w h b l j)) old (words_of (map from_yx (take m work))) out (4 * count) (4 * m) (words_length (bands_to w h b l j) ∙ omega (arith, g.count_is)) g.words_are
-              ∙ ap (λ t. t ++ drop (4 * count + 4 * m) old) (sym (ap words_of one_more ∙ words_append (bands_to w h b l j) (map from_yx (take m work)))));
+          words_are = e ∙ rw z (put_behind (words_of_regions (bands_to w h b l j)) old (words_of_regions (map from_yx (take m work))) out (4 * count) (4 * m) (words_length (bands_to w h b l j) ∙ omega (arith, g.count_is)) g.words_are
+              ∙ ap (λ t. t ++ drop (4 * count + 4 * m) old) (sym (ap words_of_regions one_more ∙ words_append (bands_to w h b l j) (map from_yx (take m work)))));
         }
 
   -- past the last band
@@ -149,5 +149,5 @@ module _ {w h b : ℕ} {l : List DeviceRegion} {old out : List ℕ} {j count pix
       let small : length (schedule_of w h b l) ≤ length old / 4 = omega (arith, g.room) in
       record {
         answer = rw (le-leb (length (schedule_of w h b l)) (length old / 4) small) (λ i. Some (record { regions = n i; pixels = x i }));
-        words = λ z. rw (← n) (g.words_are ∙ ap (λ t. words_of (bands_to w h b l t) ++ drop (4 * count) old) k);
+        words = λ z. rw (← n) (g.words_are ∙ ap (λ t. words_of_regions (bands_to w h b l t) ++ drop (4 * count) old) k);
       }

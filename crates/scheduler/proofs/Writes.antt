@@ -10,17 +10,17 @@ use lib.Seq.{take_all, take_at, drop_at, drop-drop, take-suc, length-take-le}
 use Rattle.device.specs.declared.DeviceRegion.{DeviceRegion}
 use Rattle.device.specs.Region.{area}
 use Rattle.bands.specs.Keys.{from_yx}
-use Rattle.scheduler.specs.Schedule.{pixels_of, region_words, words_of}
+use Rattle.scheduler.specs.Schedule.{pixels_of, words_of_region, words_of_regions}
 
 -- ---- words and pixels of lists
 
-pub words_append : (a b : List DeviceRegion) → words_of (a ++ b) ≡ words_of a ++ words_of b
-unfolding words_of
+pub words_append : (a b : List DeviceRegion) → words_of_regions (a ++ b) ≡ words_of_regions a ++ words_of_regions b
+unfolding words_of_regions
 words_append [] b = refl
 words_append (r ∷ a) b = ap (λ t. r.x ∷ r.y ∷ r.width ∷ r.height ∷ t) (words_append a b)
 
-pub words_length : (l : List DeviceRegion) → length (words_of l) ≡ 4 * length l
-unfolding words_of
+pub words_length : (l : List DeviceRegion) → length (words_of_regions l) ≡ 4 * length l
+unfolding words_of_regions
 words_length [] = refl
 words_length (r ∷ l) = omega (arith, words_length l)
 
@@ -29,16 +29,16 @@ unfolding pixels_of
 pixels_append [] b = omega arith
 pixels_append (r ∷ a) b = omega (arith, pixels_append a b)
 
-words_none : words_of [] ≡ []
-unfolding words_of
+words_none : words_of_regions [] ≡ []
+unfolding words_of_regions
 words_none = refl
 
 pixels_none : pixels_of [] ≡ 0
 unfolding pixels_of
 pixels_none = refl
 
-words_one : (r : DeviceRegion) → words_of (r ∷ []) ≡ region_words r
-unfolding words_of
+words_one : (r : DeviceRegion) → words_of_regions (r ∷ []) ≡ words_of_region r
+unfolding words_of_regions
 words_one r = refl
 
 pixels_one : (r : DeviceRegion) → pixels_of (r ∷ []) ≡ area r
@@ -103,7 +103,7 @@ pub record Writing (work old out : List ℕ) (pixels i : ℕ) : Type 0 where
   pub passed : i ≤ length work
   pub same_length : length out ≡ length old
   pub pixels_are : pixels ≡ pixels_of (map from_yx (take i work))
-  pub words_are : out ≡ words_of (map from_yx (take i work)) ++ drop (4 * i) old
+  pub words_are : out ≡ words_of_regions (map from_yx (take i work)) ++ drop (4 * i) old
 
 pub write_start : (work old : List ℕ) → Writing work old old 0 0
 write_start work old = record {
@@ -125,23 +125,23 @@ module _ {work old out : List ℕ} {pixels i : ℕ} (w : Writing work old out pi
     one_more : map from_yx (take (i + 1) work) ≡ map from_yx (take i work) ++ (r ∷ [])
     one_more = rw (add-one i) (ap (map from_yx) (take-suc work i 0 less) ∙ map-append from_yx (take i work) (get_or work i 0 ∷ []) ∙ ap (λ t. map from_yx (take i work) ++ (t ∷ [])) (sym is))
 
-    words_more : words_of (map from_yx (take (i + 1) work)) ≡ words_of (map from_yx (take i work)) ++ region_words r
-    words_more = ap words_of one_more ∙ words_append (map from_yx (take i work)) (r ∷ []) ∙ ap (λ t. words_of (map from_yx (take i work)) ++ t) (words_one r)
+    words_more : words_of_regions (map from_yx (take (i + 1) work)) ≡ words_of_regions (map from_yx (take i work)) ++ words_of_region r
+    words_more = ap words_of_regions one_more ∙ words_append (map from_yx (take i work)) (r ∷ []) ∙ ap (λ t. words_of_regions (map from_yx (take i work)) ++ t) (words_one r)
 
-    pub write_next : (next : List ℕ) → length next ≡ length out → next ≡ take (4 * i) out ++ region_words r ++ drop (4 * i + 4) out → (p : ℕ) → p ≡ area r → Writing work old next (pixels + p) (i + 1)
+    pub write_next : (next : List ℕ) → length next ≡ length out → next ≡ take (4 * i) out ++ words_of_region r ++ drop (4 * i + 4) out → (p : ℕ) → p ≡ area r → Writing work old next (pixels + p) (i + 1)
     write_next next len e p ep =
-        let n : length (words_of (map from_yx (take i work))) ≡ 4 * i = omega (arith, words_length (map from_yx (take i work)), taken) in
+        let n : length (words_of_regions (map from_yx (take i work))) ≡ 4 * i = omega (arith, words_length (map from_yx (take i work)), taken) in
         let z : 4 * (i + 1) ≡ 4 * i + 4 = omega arith in
         record {
           passed = omega arith;
           same_length = len ∙ w.same_length;
           pixels_are = omega (arith, w.pixels_are, ep, pixels_one r, ap pixels_of one_more, pixels_append (map from_yx (take i work)) (r ∷ []));
-          words_are = e ∙ rw z (put_behind (words_of (map from_yx (take i work))) old (region_words r) out (4 * i) 4 n w.words_are
+          words_are = e ∙ rw z (put_behind (words_of_regions (map from_yx (take i work))) old (words_of_region r) out (4 * i) 4 n w.words_are
               ∙ ap (λ t. t ++ drop (4 * i + 4) old) (sym words_more));
         }
 
-  pub write_end : length work ≤ i → (pixels ≡ pixels_of (map from_yx work)) × (out ≡ words_of (map from_yx work) ++ drop (4 * length work) old)
+  pub write_end : length work ≤ i → (pixels ≡ pixels_of (map from_yx work)) × (out ≡ words_of_regions (map from_yx work) ++ drop (4 * length work) old)
   write_end past =
       let e : i ≡ length work = omega (arith, w.passed) in
       let a : take i work ≡ work = take_all i work past in
-      (w.pixels_are ∙ ap (λ t. pixels_of (map from_yx t)) a, w.words_are ∙ (λ j. words_of (map from_yx (a j)) ++ drop (4 * e j) old))
+      (w.pixels_are ∙ ap (λ t. pixels_of (map from_yx t)) a, w.words_are ∙ (λ j. words_of_regions (map from_yx (a j)) ++ drop (4 * e j) old))

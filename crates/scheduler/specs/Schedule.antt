@@ -41,12 +41,12 @@ pixels_of [] = 0
 pixels_of (r ∷ l) = area r + pixels_of l
 
 -- regions as words: x, y, width and height of each
-abbrev pub region_words : DeviceRegion → List ℕ
-region_words r = r.x ∷ r.y ∷ r.width ∷ r.height ∷ []
+abbrev pub words_of_region : DeviceRegion → List ℕ
+words_of_region r = r.x ∷ r.y ∷ r.width ∷ r.height ∷ []
 
-unfoldable pub words_of : List DeviceRegion → List ℕ
-words_of [] = []
-words_of (r ∷ l) = region_words r ++ words_of l
+unfoldable pub words_of_regions : List DeviceRegion → List ℕ
+words_of_regions [] = []
+words_of_regions (r ∷ l) = words_of_region r ++ words_of_regions l
 
 -- region i of words that hold four a region, and the first n regions: the same, read back (`regions_back`)
 unfoldable pub region_in : List ℕ → ℕ → DeviceRegion
@@ -56,11 +56,11 @@ abbrev pub regions_to : List ℕ → ℕ → List DeviceRegion
 regions_to ws n = tabulate (region_in ws) n
 
 -- the answer: the counts where the regions fit, which is where there is room for four words each
-abbrev pub answer_of : List DeviceRegion → ℕ → Option Totals
-answer_of l words = pick (leb (length l) (words / 4)) (Some (record { regions = length l; pixels = pixels_of l })) None
+abbrev pub totals_of : List DeviceRegion → ℕ → Option Totals
+totals_of l words = pick (leb (length l) (words / 4)) (Some (record { regions = length l; pixels = pixels_of l })) None
 
 -- The answer r for the regions l, with the words `before` and `after` it: where the regions fit, their words stand in front and
 -- the rest is as it was. Where they do not, the words are left open.
 pub record Answers (l : List DeviceRegion) (before : List ℕ) (r : Option Totals) (after : List ℕ) : Type 0 where
-  pub answer : r ≡ answer_of l (length before)
-  pub words : length l ≤ length before / 4 → after ≡ words_of l ++ drop (4 * length l) before
+  pub answer : r ≡ totals_of l (length before)
+  pub words : length l ≤ length before / 4 → after ≡ words_of_regions l ++ drop (4 * length l) before

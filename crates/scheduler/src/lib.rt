@@ -5,6 +5,7 @@
 ghost use Rattle.std.specs.Prelude.{◌≡◌, map, ◌++◌, ◌≤◌, ◌<◌, ◌*◌, ◌/◌, ◌+◌, length, take, drop};
 ghost use Rattle.bands.specs.Bands as Bands;
 ghost use Rattle.bands.specs.Keys as Keys;
+ghost use Rattle.rect_words.specs.Words as Words;
 ghost use Rattle.scheduler.specs.Schedule as Schedule;
 
 use device::DeviceRegion;
@@ -33,7 +34,7 @@ fn band_at(screen: Screen, row: u32) -> DeviceRegion
 // Writes region number at of out: its four words.
 fn put_region(out: &mut [u32], at: usize, r: DeviceRegion)
     requires { 4 * at + 4 ≤ length out.old }
-    ensures { out.new ≡ take (4 * at) out.old ++ Schedule.region_words r ++ drop (4 * at + 4) out.old }
+    ensures { out.new ≡ take (4 * at) out.old ++ Schedule.words_of_region r ++ drop (4 * at + 4) out.old }
 {
     out[4 * at..4 * at + 4].copy_from_slice(&[r.x, r.y, r.width, r.height]);
 }
@@ -43,7 +44,7 @@ fn put_region(out: &mut [u32], at: usize, r: DeviceRegion)
 fn put_band(work: &[u64], out: &mut [u32]) -> u64
     requires { (length work.now ≤ 32768) × (4 * length work.now ≤ length out.old) }
     ensures value { result ≡ Schedule.pixels_of (map Keys.from_yx work.now) }
-    ensures out_after { out.new ≡ Schedule.words_of (map Keys.from_yx work.now) ++ drop (4 * length work.now) out.old }
+    ensures out_after { out.new ≡ Schedule.words_of_regions (map Keys.from_yx work.now) ++ drop (4 * length work.now) out.old }
 {
     let mut sum: u64 = 0;
     for (i, key) in work.iter().enumerate() {
@@ -59,7 +60,7 @@ fn put_band(work: &[u64], out: &mut [u32]) -> u64
 pub fn schedule(rects: &[f64], screen: Screen, work: &mut [u64], out: &mut [u32]) -> Option<Totals>
     requires sizes { Schedule.Sizes screen.width screen.height screen.band_height }
     requires n_in_bounds { length rects.now / 4 ≤ length work.old }
-    ensures { Schedule.Answers (Schedule.schedule screen.width screen.height screen.band_height (Bands.rects_to rects.now (length rects.now / 4))) out.old result out.new }
+    ensures { Schedule.Answers (Schedule.schedule screen.width screen.height screen.band_height (Words.boxes_to rects.now (length rects.now / 4))) out.old result out.new }
 {
     let room = out.len() / 4;
     let mut count: usize = 0;

@@ -7,9 +7,9 @@ use Rattle.std.proofs.lemmas.Bool.{and_parts}
 use Rattle.screen.specs.declared.Screen.{Screen}
 use Rattle.screen.specs.Sizes.{size_fits, fits}
 
-pub size_of : (n : ℕ) → size_fits n ≡ true → (0 < n) × (n ≤ 32768)
+pub size_limits : (n : ℕ) → size_fits n ≡ true → (0 < n) × (n ≤ 32768)
 unfolding size_fits
-size_of n e = go (eqb n 0) refl e
+size_limits n e = go (eqb n 0) refl e
   where
     go : (t : Bool) → eqb n 0 ≡ t → pick t false (leb n 32768) ≡ true → (0 < n) × (n ≤ 32768)
     go true q e = absurd (false≢true e)
@@ -28,7 +28,7 @@ pub sizes_of : (s : Screen) → fits s ≡ true → Fits s
 sizes_of s e =
     let t = and_parts (size_fits s.width) (size_fits s.height && size_fits s.band_height) e in
     let u = and_parts (size_fits s.height) (size_fits s.band_height) t.1 in
-    let a = size_of s.width t.0 in
-    let b = size_of s.height u.0 in
-    let c = size_of s.band_height u.1 in
+    let a = size_limits s.width t.0 in
+    let b = size_limits s.height u.0 in
+    let c = size_limits s.band_height u.1 in
     record { some_width = a.0; width_most = a.1; some_height = b.0; height_most = b.1; some_band = c.0; band_most = c.1 }

@@ -3,9 +3,10 @@
 use Rattle.std.specs.Prelude.{◌≡◌, List, [], ◌∷◌, ℕ, zero, suc, ◌*◌, ◌≤◌, ◌<◌, length, Float}
 use Rattle.commands.specs.Bounds.{Command, bounds}
 use Rattle.clips.specs.Chains.{chain, Clips}
-use Rattle.display_list.specs.Lists.{offset_at, clip_number_at, box_at}
+use Rattle.display_list.specs.Lists.{offset_at, clip_number_at}
 use Rattle.strip.specs.Reading.{command_of}
 use Rattle.strip_laws.specs.Limits.{Whole}
+use Rattle.rect_words.specs.Words.{box_at}
 
 -- the command at place i: what stands at its offset, under the clips up to its clip number
 abbrev pub command_in : List ℕ → List Float → List ℕ → List ℕ → ℕ → Command

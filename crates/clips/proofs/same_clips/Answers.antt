@@ -8,13 +8,13 @@ pub walk-init : goal.walk-init
 walk-init c = left_start _ _ _ _ c.requires
 
 pub walk-smaller : goal.walk-smaller
-walk-smaller c = (left_next _ _ _ _ _ _ c.walk.invariant c.if-x-eq0.false c.if-y-eq0.false c.same_edges.ensures c.rect_at-clip.ensures c.rect_at-other_clip.ensures c.if-not-same_edges.false).0
+walk-smaller c = (left_next _ _ _ _ _ _ c.walk.invariant c.if-x-eq0.false c.if-y-eq0.false c.same_edges.ensures c.rect_from-clip.ensures c.rect_from-other_clip.ensures c.if-not-same_edges.false).0
 
 pub walk-preserved : goal.walk-preserved
-walk-preserved c = (left_next _ _ _ _ _ _ c.walk.invariant c.if-x-eq0.false c.if-y-eq0.false c.same_edges.ensures c.rect_at-clip.ensures c.rect_at-other_clip.ensures c.if-not-same_edges.false).1
+walk-preserved c = (left_next _ _ _ _ _ _ c.walk.invariant c.if-x-eq0.false c.if-y-eq0.false c.same_edges.ensures c.rect_from-clip.ensures c.rect_from-other_clip.ensures c.if-not-same_edges.false).1
 
 pub returns-then-not-same_edges : goal.returns-then-not-same_edges
-returns-then-not-same_edges c = left_stop _ _ _ _ _ _ c.walk.invariant c.if-x-eq0.false c.if-y-eq0.false c.same_edges.ensures c.rect_at-clip.ensures c.rect_at-other_clip.ensures c.if-not-same_edges.true
+returns-then-not-same_edges c = left_stop _ _ _ _ _ _ c.walk.invariant c.if-x-eq0.false c.if-y-eq0.false c.same_edges.ensures c.rect_from-clip.ensures c.rect_from-other_clip.ensures c.if-not-same_edges.true
 
 pub returns-then-x-eq0-2 : goal.returns-then-x-eq0-2
 returns-then-x-eq0-2 c = left_x _ _ _ _ _ _ c.walk.invariant c.if-x-eq0-2.true
