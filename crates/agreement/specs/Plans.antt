@@ -19,7 +19,7 @@ pub record FirstAgree (z : Lent) (s t : List ℕ) (c d : Cursor) : Type 0 where
   pub sizes : header_of s ≡ header_of t
   pub read : first_of s ≡ Ok c
   pub other_read : first_of t ≡ Ok d
-  pub commands : AgreeAll (commands_of s 12) (commands_of t 12)
+  pub commands : AgreeAll (commands_of s header_length) (commands_of t header_length)
   pub clips : leb c.clips z.clips ≡ leb d.clips z.clips
 
 -- two page turns: the commands of the old strips agree, and so do those of the new strips, which begin where the old ones end
@@ -27,7 +27,7 @@ pub record NextAgree (z : Lent) (s t : List ℕ) (old new old' new' : Cursor) : 
   pub sizes : header_of s ≡ header_of t
   pub read : both_of s ≡ Ok (strips old new)
   pub other_read : both_of t ≡ Ok (strips old' new')
-  pub old_commands : AgreeAll (commands_of s 12) (commands_of t 12)
+  pub old_commands : AgreeAll (commands_of s header_length) (commands_of t header_length)
   pub new_commands : AgreeAll (commands_of s old.at) (commands_of t old'.at)
   pub clips : leb (old.clips + new.clips) z.clips ≡ leb (old'.clips + new'.clips) z.clips
 

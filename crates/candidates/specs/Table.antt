@@ -1,19 +1,13 @@
 -- Document 01's table at `candidates`, for any numbers and any words.
-use Rattle.std.specs.Prelude.{Bool, ◌||◌, ℕ, ◌+◌, ◌-◌, ◌/◌, List, [], length, get_or, take, drop, leb, ltb, eqb, Result, Ok, Err}
+use Rattle.std.specs.Prelude.{Bool, ◌||◌, ℕ, ◌+◌, ◌-◌, ◌/◌, List, [], length, get_or, take, drop, leb, ltb, Result, Ok, Err}
 use Rattle.lists.specs.Pick.{pick}
 use Rattle.rows.specs.Rows.{row_count}
+use Rattle.screen.specs.declared.Screen.{Screen}
+use Rattle.screen.specs.Sizes.{fits}
 use Rattle.refusals.specs.declared.Fault.TheVariants.{Size, NoRow}
 use Rattle.refusals.specs.declared.Refusal.{Refusal}
 use Rattle.refusals.specs.Table.{number, refused}
 use Rattle.candidates.specs.declared.Part.{Part}
-
--- "is 0 or above 32,768"
-unfoldable pub bad_size : ℕ → Bool
-bad_size n = eqb n 0 || ltb 32768 n
-
--- 1: "width, height or band height is 0 or above 32,768"
-unfoldable pub bad_sizes : ℕ → ℕ → ℕ → Bool
-bad_sizes width height band = bad_size width || bad_size height || bad_size band
 
 -- 11, of a row and words with so many rows: the row "is at least the row count; or the index words lack the starts, or the row's two
 -- starts fall or pass the entries". The entries are the words behind the rows + 1 starts.
@@ -31,17 +25,17 @@ part start end = record { start = start; end = end }
 unfoldable pub find_row : ℕ → ℕ → List ℕ → Result Part Refusal
 find_row rows r words = pick (bad_row rows r words) (refused NoRow 0) (Ok (part (rows + 1 + get_or words r 0) (rows + 1 + get_or words (r + 1) 0)))
 
--- "after 1", with "region y divided by band height, rounded down"
-unfoldable pub find : ℕ → ℕ → ℕ → ℕ → List ℕ → Result Part Refusal
-find width height band y words = pick (bad_sizes width height band) (refused Size 0) (find_row (row_count height band) (y / band) words)
+-- "after 1" (`fits`), with "region y divided by band height, rounded down"
+unfoldable pub find : Screen → ℕ → List ℕ → Result Part Refusal
+find s y words = pick (fits s) (find_row (row_count s.height s.band_height) (y / s.band_height) words) (refused Size 0)
 
 -- "`candidates` is the row of region y"; "A refused `candidates` hands back an empty list."
 abbrev pub part_of : Result Part Refusal → List ℕ → List ℕ
 part_of (Ok p) words = take (p.end - p.start) (drop p.start words)
 part_of (Err why) words = []
 
-abbrev pub candidates : ℕ → ℕ → ℕ → ℕ → List ℕ → List ℕ
-candidates width height band y words = part_of (find width height band y words) words
+abbrev pub candidates : Screen → ℕ → List ℕ → List ℕ
+candidates s y words = part_of (find s y words) words
 
 -- the table's number; 0 where no row's case holds
 abbrev pub number_of : Result Part Refusal → ℕ
@@ -53,5 +47,5 @@ abbrev pub position_of : Result Part Refusal → ℕ
 position_of (Ok p) = 0
 position_of (Err why) = why.position
 
-abbrev pub refusal : ℕ → ℕ → ℕ → ℕ → List ℕ → ℕ
-refusal width height band y words = number_of (find width height band y words)
+abbrev pub refusal : Screen → ℕ → List ℕ → ℕ
+refusal s y words = number_of (find s y words)

@@ -38,7 +38,7 @@ fn find_row(row_count: usize, row: usize, words: &[u32]) -> Result<Part, Refusal
 
 // Where the words have the row of region y, or why there is none; its position is 0 either way.
 pub fn find(screen: Screen, y: u32, words: &[u32]) -> Result<Part, Refusal>
-    ensures row { result ≡ Table.find screen.width screen.height screen.band_height y words.now }
+    ensures row { result ≡ Table.find screen y words.now }
     ensures position { Table.position_of result ≡ 0 }
 {
     if !screen.fits() {
@@ -50,7 +50,7 @@ pub fn find(screen: Screen, y: u32, words: &[u32]) -> Result<Part, Refusal>
 
 // The row of region y itself; no word where it is refused.
 pub fn candidates<'a>(screen: Screen, y: u32, words: &'a [u32]) -> &'a [u32]
-    ensures { result.now ≡ Table.candidates screen.width screen.height screen.band_height y words.now }
+    ensures { result.now ≡ Table.candidates screen y words.now }
 {
     match find(screen, y, words) {
         Ok(part) => &words[part.start..part.end],
@@ -60,7 +60,7 @@ pub fn candidates<'a>(screen: Screen, y: u32, words: &'a [u32]) -> &'a [u32]
 
 // The number of the refusal alone; 0 where there is none. `find` says it with the row.
 pub fn refusal(screen: Screen, y: u32, words: &[u32]) -> u32
-    ensures { result ≡ Table.refusal screen.width screen.height screen.band_height y words.now }
+    ensures { result ≡ Table.refusal screen y words.now }
 {
     match find(screen, y, words) {
         Ok(_) => 0,

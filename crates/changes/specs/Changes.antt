@@ -1,5 +1,5 @@
 -- What changed between two display lists, as boxes in dew's order.
-use Rattle.std.specs.Prelude.{List, [], ◌∷◌, ◌++◌}
+use Rattle.std.specs.Prelude.{List, [], ◌∷◌, ◌++◌, map}
 use Rattle.lists.specs.Pick.{pick}
 use Rattle.geometry.specs.declared.Rect.{Rect}
 use Rattle.geometry.specs.Boxes.{union}
@@ -9,13 +9,16 @@ use Rattle.operand_equality.specs.Operands.{same_glyph}
 use Rattle.equality.specs.Drawings.{equal, fills_alike, runs_alike_clipped}
 use Rattle.differences.specs.Differences.{rect_symmetric_difference}
 
--- "for each common place whose id, x or y differ, the union of both transformed, clipped glyph boxes; then the old remainder, then the new": glyphs
--- of an old command and of a new one, of which only one can have a remainder
-unfoldable pub changed_glyphs : Command → List Glyph → Command → List Glyph → List Rect
-changed_glyphs old [] new [] = []
-changed_glyphs old [] new (h ∷ hs) = glyph_bounds new h ∷ changed_glyphs old [] new hs
-changed_glyphs old (g ∷ gs) new [] = glyph_bounds old g ∷ changed_glyphs old gs new []
-changed_glyphs old (g ∷ gs) new (h ∷ hs) = pick (same_glyph g h) [] (union (glyph_bounds old g) (glyph_bounds new h) ∷ []) ++ changed_glyphs old gs new hs
+-- what changed from one glyph to another at its place, by what becomes of a glyph's box in each run: nothing, or where "id, x or y differ, the union of both
+-- transformed, clipped glyph boxes"
+unfoldable pub changed_at : (Glyph → Rect) → (Glyph → Rect) → Glyph → Glyph → List Rect
+changed_at old new g h = pick (same_glyph g h) [] (union (old g) (new h) ∷ [])
+
+-- "for each common place" that; "then the old remainder, then the new", of which only one is not empty
+unfoldable pub changed_glyphs : (Glyph → Rect) → (Glyph → Rect) → List Glyph → List Glyph → List Rect
+changed_glyphs old new [] hs = map new hs
+changed_glyphs old new (g ∷ gs) [] = map old (g ∷ gs)
+changed_glyphs old new (g ∷ gs) (h ∷ hs) = changed_at old new g h ++ changed_glyphs old new gs hs
 
 -- "Equal: nothing. FILLs alike in path (its number and its box), affine and brush: `rect_difference` .. RUNs alike in font, size bits, affine, brush
 -- and clip .. Else: the union of both command boxes."
@@ -25,7 +28,7 @@ changed_bounds old new =
     []
     (pick (fills_alike old.draw new.draw)
     (rect_symmetric_difference (bounds old) (bounds new))
-    (pick (runs_alike_clipped old new) (changed_glyphs old old.glyphs new new.glyphs) (union (bounds old) (bounds new) ∷ [])))
+    (pick (runs_alike_clipped old new) (changed_glyphs (glyph_bounds old) (glyph_bounds new) old.glyphs new.glyphs) (union (bounds old) (bounds new) ∷ [])))
 
 -- "common places in order, then boxes of the old remainder, then of the new", of which only one is not empty
 unfoldable pub diff_dirty : List Command → List Command → List Rect

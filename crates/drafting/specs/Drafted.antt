@@ -5,6 +5,8 @@ use Rattle.refusals.specs.Table.{refused}
 use Rattle.std.specs.Prelude.{◌≡◌, true, List, ℕ, ◌*◌, ◌≤◌, leb, length, take, drop, Float, Result, Ok}
 use Rattle.lists.specs.Pick.{pick}
 use Rattle.rows.specs.Rows.{row_count}
+use Rattle.screen.specs.declared.Screen.{Screen}
+use Rattle.screen.specs.Sizes.{fits}
 use Rattle.rect_list.specs.Rects as Rects
 use Rattle.scheduler.specs.Schedule as Schedule
 use Rattle.index_words.specs.Index.{index_words}
@@ -16,12 +18,12 @@ use Rattle.plans.specs.Answers.{draft_fits, planned, counts, accepted}
 use Rattle.rect_words.specs.Words.{boxes_to}
 
 -- the draft of the first n rectangles and of so many commands
-abbrev pub draft_in : ℕ → ℕ → ℕ → List Float → ℕ → List Float → ℕ → ℕ → Draft
-draft_in w h b rs n ibs first commands =
+abbrev pub draft_in : Screen → List Float → ℕ → List Float → ℕ → ℕ → Draft
+draft_in s rs n ibs first commands =
     record {
       rects = boxes_to rs n;
-      regions = Schedule.schedule w h b (boxes_to rs n);
-      words = index_words b (row_count h b) (boxes_to (drop (4 * first) ibs) commands);
+      regions = Schedule.schedule s (boxes_to rs n);
+      words = index_words s.band_height (row_count s.height s.band_height) (boxes_to (drop (4 * first) ibs) commands);
       emitted = commands;
     }
 
@@ -48,8 +50,8 @@ abbrev pub StandsIf : Result Plan Refusal → Draft → List Float → List ℕ 
 StandsIf r d rs gs ws = accepted r ≡ true → Stands d rs gs ws
 
 -- the scratch is long enough for what is said to be lent
-pub record Ready (w h b : ℕ) (rs : List Float) (commands : ℕ) (work spans gs ws : List ℕ) (z : Lent) : Type 0 where
-  pub sizes : Schedule.Sizes w h b
+pub record Ready (s : Screen) (rs : List Float) (commands : ℕ) (work spans gs ws : List ℕ) (z : Lent) : Type 0 where
+  pub sizes : fits s ≡ true
   pub few : commands ≤ 4096
   pub rect_room : 4 * z.rects ≤ length rs
   pub work_room : z.rects ≤ length work

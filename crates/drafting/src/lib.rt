@@ -2,7 +2,7 @@
 #![tactic(auto)]
 
 ghost use Rattle.std.specs.Prelude.{◌≡◌, ◌/◌, ◌≤◌, length};
-ghost use Rattle.index_words.specs.Sizes.{Size};
+ghost use Rattle.screen.specs.Sizes.{fits};
 ghost use Rattle.band_index.specs.Answer.{index_of, stored};
 ghost use Rattle.drafting.specs.Drafted.{draft_in, rooms, indexed, judged, StandsIf, Ready};
 
@@ -24,9 +24,9 @@ fn index_draft(
     spans: &mut [u64],
     words: &mut [u32],
 ) -> Result<Plan, Refusal>
-    requires { (Size screen.height) × (Size screen.band_height) × (length boxes.now / 4 ≤ 4096) × (room ≤ length words.old) × (length boxes.now / 4 ≤ length spans.old) }
-    ensures answer { result ≡ indexed (index_of boxes.now (length boxes.now / 4) screen.height screen.band_height) room rects (length boxes.now / 4) totals.regions totals.pixels }
-    ensures held { words.new ≡ stored (index_of boxes.now (length boxes.now / 4) screen.height screen.band_height) words.old }
+    requires { (fits screen ≡ true) × (length boxes.now / 4 ≤ 4096) × (room ≤ length words.old) × (length boxes.now / 4 ≤ length spans.old) }
+    ensures answer { result ≡ indexed (index_of boxes.now (length boxes.now / 4) screen) room rects (length boxes.now / 4) totals.regions totals.pixels }
+    ensures held { words.new ≡ stored (index_of boxes.now (length boxes.now / 4) screen) words.old }
 {
     let count = band_index::build(boxes, screen, spans, words).ok_or(Fault::NoRoom.at(0))?;
     if room < count {
@@ -53,9 +53,9 @@ pub fn draft(
     regions: &mut [u32],
     words: &mut [u32],
 ) -> Result<Plan, Refusal>
-    requires { Ready screen.width screen.height screen.band_height rects.now (length boxes.now / 4) work.old spans.old regions.old words.old (rooms room.rects room.regions room.words) }
-    ensures answer { result ≡ judged (rooms room.rects room.regions room.words) (draft_in screen.width screen.height screen.band_height rects.now n boxes.now 0 (length boxes.now / 4)) }
-    ensures stands { StandsIf result (draft_in screen.width screen.height screen.band_height rects.now n boxes.now 0 (length boxes.now / 4)) rects.now regions.new words.new }
+    requires { Ready screen rects.now (length boxes.now / 4) work.old spans.old regions.old words.old (rooms room.rects room.regions room.words) }
+    ensures answer { result ≡ judged (rooms room.rects room.regions room.words) (draft_in screen rects.now n boxes.now 0 (length boxes.now / 4)) }
+    ensures stands { StandsIf result (draft_in screen rects.now n boxes.now 0 (length boxes.now / 4)) rects.now regions.new words.new }
 {
     if room.rects < n {
         return Err(Fault::NoRoom.at(0));

@@ -1,6 +1,6 @@
 -- Reading a whole input: numbers 1 and 2 of the header, then each strip from where the last one ended, then 8. "Checked" in the table's order, old
 -- strip first; lent space is judged behind all of this.
-use Rattle.std.specs.Prelude.{◌&&◌, List, ℕ, ltb, length, Result, Ok, Err}
+use Rattle.std.specs.Prelude.{List, ℕ, ltb, length, Result, Ok, Err}
 use Rattle.lists.specs.Pick.{pick}
 use Rattle.refusals.specs.declared.Fault.TheVariants.{Size, CutOff, TrailingByte}
 use Rattle.refusals.specs.declared.Refusal.{Refusal}
@@ -9,19 +9,22 @@ use Rattle.little_endian.specs.Words.{u32_at}
 use Rattle.strip.specs.declared.Cursor.{Cursor}
 use Rattle.strip.specs.Reading.{read_strip}
 use Rattle.screen.specs.declared.Screen.{Screen}
-use Rattle.screen.specs.Sizes.{size_fits}
+use Rattle.screen.specs.Sizes.{fits}
 use Rattle.frame.specs.declared.Strips.{Strips}
 
 -- ---- "The header is width, height, band height, u32 each."
+abbrev pub header_length : ℕ
+header_length = 12
+
 abbrev pub sizes_at : List ℕ → Screen
 sizes_at s = record { width = u32_at s 0; height = u32_at s 4; band_height = u32_at s 8 }
 
 -- 2: "fewer than 12 bytes"; 1 and 2 of the header have position 0
 unfoldable pub header_of : List ℕ → Result Screen Refusal
 header_of s =
-    pick (ltb (length s) 12)
+    pick (ltb (length s) header_length)
     (refused CutOff 0)
-    (pick (size_fits (u32_at s 0) && (size_fits (u32_at s 4) && size_fits (u32_at s 8))) (Ok (sizes_at s)) (refused Size 0))
+    (pick (fits (sizes_at s)) (Ok (sizes_at s)) (refused Size 0))
 
 -- ---- "Then the old strip, then the new."
 -- 8: "a byte follows" the new END
@@ -49,8 +52,8 @@ then_strips s (Err why) = Err why
 
 -- the two strips of an input whose header is good
 unfoldable pub both_of : List ℕ → Result Strips Refusal
-both_of s = then_strips s (read_strip s 12)
+both_of s = then_strips s (read_strip s header_length)
 
 -- "A first frame has an entry point of its own: header and one strip, the same checks."
 unfoldable pub first_of : List ℕ → Result Cursor Refusal
-first_of s = then_end s (read_strip s 12)
+first_of s = then_end s (read_strip s header_length)

@@ -36,7 +36,7 @@ use Rattle.frame_drafts.specs.declared.Changed.{Changed}
 use Rattle.frame_drafts.specs.Scratch.{lent_scratch, on_strips, outcome, Roomy, StandsFor}
 use Rattle.frame_drafts.specs.Listing.{Stand}
 use Rattle.frame_drafts.specs.declared.Items.{Items as Counts}
-use Rattle.frame_drafts.specs.Counts.{count_both, items_of, items_of_both}
+use Rattle.frame_drafts.specs.Counts.{count_both, counted, counted_both}
 use Rattle.frame_drafts.proofs.Holdings.{first_within, both_within, items_same, items_room, list_length, stored_boxes}
 use Rattle.frame_drafts.proofs.Judgements.{answered, no_items}
 use Rattle.rect_words.specs.Words.{boxes_to}
@@ -70,7 +70,7 @@ module _ (s : List ℕ) {z y : Space} (glyphs : List ℕ) {r : Result Strips Ref
     abbrev items : Items
     items = record { commands = old.commands + new.commands; glyphs = old.glyphs + new.glyphs; clips = old.clips + new.clips }
 
-    module _ {counts : Counts} (counted : counts ≡ items_of_both both) {t : Bool} (judges : t ≡ items_fit (lent_scratch y.boxes y.below y.items y.item_boxes glyphs 0 0 0) (of_counts counts)) where
+    module _ {counts : Counts} (counted : counts ≡ counted_both both) {t : Bool} (judges : t ≡ items_fit (lent_scratch y.boxes y.below y.items y.item_boxes glyphs 0 0 0) (of_counts counts)) where
       -- no sum of two counts saturates
       same_counts : of_counts counts ≡ items
       same_counts =
@@ -121,8 +121,8 @@ module _ (s : List ℕ) (w h b : ℕ) {z y : Space} (glyphs : List ℕ) {r : Res
   pub first_refused : (why : Refusal) → r ≡ Err why → (R G W : ℕ) → Err why ≡ answer_of (lent_for z glyphs R G W) (on_first w h b s (first_of s))
   first_refused why q R G W = rw (sym (sym q ∙ a)) refl
 
-  module _ {new : Cursor} (q : r ≡ Ok new) {counts : Counts} (counted : counts ≡ items_of new) {t : Bool} (judges : t ≡ items_fit (lent_scratch y.boxes y.below y.items y.item_boxes glyphs 0 0 0) (of_counts counts)) where
-    judged_one : t ≡ items_fit (lent_scratch y.boxes y.below y.items y.item_boxes glyphs 0 0 0) (of_counts (items_of new))
+  module _ {new : Cursor} (q : r ≡ Ok new) {counts : Counts} (counted : counts ≡ counted new) {t : Bool} (judges : t ≡ items_fit (lent_scratch y.boxes y.below y.items y.item_boxes glyphs 0 0 0) (of_counts counts)) where
+    judged_one : t ≡ items_fit (lent_scratch y.boxes y.below y.items y.item_boxes glyphs 0 0 0) (of_counts (counted new))
     judged_one = judges ∙ ap (λ (x : Counts). items_fit (lent_scratch y.boxes y.below y.items y.item_boxes glyphs 0 0 0) (of_counts x)) counted
 
     pub first_over : t ≡ false → (R G W : ℕ) → refused NoRoom 0 ≡ answer_of (lent_for z glyphs R G W) (on_first w h b s (first_of s))

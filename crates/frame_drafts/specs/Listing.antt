@@ -3,6 +3,7 @@
 use Rattle.std.specs.Prelude.{◌≡◌, true, ℕ, ◌+◌, ◌*◌, ◌≤◌, List, map, length, drop, Float, Result, Ok, Err}
 use Rattle.refusals.specs.declared.Refusal.{Refusal}
 use Rattle.geometry.specs.declared.Rect.{Rect}
+use Rattle.screen.specs.declared.Screen.{Screen}
 use Rattle.commands.specs.Bounds.{Command, bounds}
 use Rattle.rect_list.specs.Rects.{Listed}
 use Rattle.recording.specs.Recorded.{Space}
@@ -13,11 +14,11 @@ use Rattle.frame_drafts.specs.Scratch.{lent_scratch}
 use Rattle.rect_words.specs.Words.{boxes_to}
 
 -- the draft is that of rectangles and commands that are in scratch, and the items fit in the scratch z that was lent
-pub record Stand (w h b : ℕ) (o : Outcome) (z : Space) (glyphs : List ℕ) (before rs : List Float) (is : List ℕ) (ibs : List Float) (c : Changed) : Type 0 where
+pub record Stand (screen : Screen) (o : Outcome) (z : Space) (glyphs : List ℕ) (before rs : List Float) (is : List ℕ) (ibs : List Float) (c : Changed) : Type 0 where
   pub items : Items
   pub rects : List Rect
   pub commands : List Command
-  pub is_draft : o ≡ drafted items (draft w h b rects commands)
+  pub is_draft : o ≡ drafted items (draft screen rects commands)
   pub fit : items_fit (lent_scratch z.boxes z.below z.items z.item_boxes glyphs 0 0 0) items ≡ true
   pub listed : Listed before rects rs c.n
   pub boxes : boxes_to (drop (4 * c.first) ibs) c.commands ≡ map bounds commands
@@ -27,6 +28,6 @@ pub record Stand (w h b : ℕ) (o : Outcome) (z : Space) (glyphs : List ℕ) (be
   pub span_room : c.commands ≤ length is
 
 -- or the call is refused, whatever is lent for its plan
-abbrev pub Lists : ℕ → ℕ → ℕ → Outcome → Space → List ℕ → List Float → List Float → List ℕ → List Float → Result Changed Refusal → Type 0
-Lists w h b o z glyphs before rs is ibs (Ok c) = Stand w h b o z glyphs before rs is ibs c
-Lists w h b o z glyphs before rs is ibs (Err why) = (R G W : ℕ) → Err why ≡ answer_of (lent_scratch z.boxes z.below z.items z.item_boxes glyphs R G W) o
+abbrev pub Lists : Screen → Outcome → Space → List ℕ → List Float → List Float → List ℕ → List Float → Result Changed Refusal → Type 0
+Lists screen o z glyphs before rs is ibs (Ok c) = Stand screen o z glyphs before rs is ibs c
+Lists screen o z glyphs before rs is ibs (Err why) = (R G W : ℕ) → Err why ≡ answer_of (lent_scratch z.boxes z.below z.items z.item_boxes glyphs R G W) o

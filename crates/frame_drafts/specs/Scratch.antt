@@ -1,6 +1,7 @@
 -- The scratch of a call: what it can take, and what a draft leaves there.
 use Rattle.refusals.specs.declared.Refusal.{Refusal}
 use Rattle.std.specs.Prelude.{ℕ, ◌*◌, ◌/◌, ◌≤◌, min, List, length, Float, Result}
+use Rattle.screen.specs.declared.Screen.{Screen}
 use Rattle.plans.specs.declared.Plan.{Plan}
 use Rattle.plans.specs.Drafts.{Outcome, turned, drafted, on_first, on_both, first_outcome, next_outcome}
 use Rattle.frame.specs.Frame.{first_of, both_of}
@@ -21,10 +22,10 @@ lent_scratch bs ns is ibs glyphs rects regions words =
       words = words;
     }
 
--- what the strips come to on a screen of w by h in bands of b, for the entry that is called
-abbrev pub on_strips : Entry → ℕ → ℕ → ℕ → List ℕ → Outcome
-on_strips First w h b s = on_first w h b s (first_of s)
-on_strips Next w h b s = on_both w h b s (both_of s)
+-- what the strips come to on a screen, for the entry that is called
+abbrev pub on_strips : Entry → Screen → List ℕ → Outcome
+on_strips First screen s = on_first screen s (first_of s)
+on_strips Next screen s = on_both screen s (both_of s)
 
 -- what the bytes come to
 abbrev pub outcome : Entry → List ℕ → Outcome

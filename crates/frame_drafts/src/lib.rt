@@ -9,7 +9,7 @@ ghost use Rattle.plans.specs.Drafts.{screen_rect, on_first, on_both};
 ghost use Rattle.plans.specs.Answers.{items_fit, answer_of};
 ghost use Rattle.frame_drafts.specs.Scratch.{lent_scratch, on_strips, outcome, Roomy, StandsFor};
 ghost use Rattle.frame_drafts.specs.Listing.{Lists};
-ghost use Rattle.frame_drafts.specs.Counts.{items_of, items_of_both};
+ghost use Rattle.frame_drafts.specs.Counts.{counted, counted_both};
 
 use frame::Strips;
 use geometry::Rect;
@@ -37,7 +37,7 @@ pub struct Items {
 
 // What a strip has, by where its reading ended.
 impl From<Cursor> for Items {
-    ghost from_gives = { λ end items. items ≡ items_of end };
+    ghost from_gives = { λ end items. items ≡ counted end };
 
     fn from(end: Cursor) -> Items {
         Items {
@@ -50,7 +50,7 @@ impl From<Cursor> for Items {
 
 // What two strips have together. A strip that was read has at most 4,096 commands, 4,096 clips and 16,384 glyphs, so that no sum saturates.
 impl From<Strips> for Items {
-    ghost from_gives = { λ strips items. items ≡ items_of_both strips };
+    ghost from_gives = { λ strips items. items ≡ counted_both strips };
 
     fn from(strips: Strips) -> Items {
         let Strips { old, new } = strips;
@@ -90,7 +90,7 @@ fn items_fit(
 }
 
 fn screen_rect(screen: Screen) -> Rect
-    ensures { result ≡ screen_rect screen.width screen.height }
+    ensures { result ≡ screen_rect screen }
 {
     Rect {
         x0: 0.0,
@@ -112,7 +112,7 @@ fn list_first(
     glyph_items: &[u64],
     rects: &mut [f64],
 ) -> Result<Changed, Refusal>
-    ensures { Lists screen.width screen.height screen.band_height (on_first screen.width screen.height screen.band_height s.now (first_of s.now)) (space boxes.old below.old items.old item_boxes.old) glyph_items.now rects.old rects.new items.new item_boxes.new result }
+    ensures { Lists screen (on_first screen s.now (first_of s.now)) (space boxes.old below.old items.old item_boxes.old) glyph_items.now rects.old rects.new items.new item_boxes.new result }
 {
     let new = recording::record_first(s, boxes, below, items, item_boxes)?;
     let count = Items::from(new);
@@ -138,7 +138,7 @@ fn list_next(
     glyph_items: &[u64],
     rects: &mut [f64],
 ) -> Result<Changed, Refusal>
-    ensures { (w h b : ℕ) → Lists w h b (on_both w h b s.now (both_of s.now)) (space boxes.old below.old items.old item_boxes.old) glyph_items.now rects.old rects.new items.new item_boxes.new result }
+    ensures { (screen : Screen) → Lists screen (on_both screen s.now (both_of s.now)) (space boxes.old below.old items.old item_boxes.old) glyph_items.now rects.old rects.new items.new item_boxes.new result }
 {
     let both = recording::record_both(s, boxes, below, items, item_boxes)?;
     let count = Items::from(both);
@@ -170,7 +170,7 @@ fn list_frame(
     glyph_items: &[u64],
     rects: &mut [f64],
 ) -> Result<Changed, Refusal>
-    ensures { Lists screen.width screen.height screen.band_height (on_strips entry screen.width screen.height screen.band_height s.now) (space boxes.old below.old items.old item_boxes.old) glyph_items.now rects.old rects.new items.new item_boxes.new result }
+    ensures { Lists screen (on_strips entry screen s.now) (space boxes.old below.old items.old item_boxes.old) glyph_items.now rects.old rects.new items.new item_boxes.new result }
 {
     match entry {
         Entry::First => list_first(

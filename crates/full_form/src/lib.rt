@@ -144,7 +144,7 @@ pub fn write_candidates<W: Write>(
     y: u32,
     words: &[u32],
 ) -> io::Result<()>
-    ensures { OnOk result (Appends (W.contents out.old) (W.contents out.new) (row_line (find screen.width screen.height screen.band_height y words.now) words.now)) }
+    ensures { OnOk result (Appends (W.contents out.old) (W.contents out.new) (row_line (find screen y words.now) words.now)) }
 {
     if let Err(why) = candidates::find(screen, y, words) {
         return writeln!(out, "{why}");

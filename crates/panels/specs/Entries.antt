@@ -2,7 +2,7 @@
 -- contracts, which speak of the same definitions.
 use Rattle.std.specs.Prelude.{◌≡◌, List, [], ◌++◌, ℕ, length}
 use Rattle.std.proofs.Math.Option.{Option, none, some}
-use Rattle.little_endian.specs.Words.{u32_at}
+use Rattle.frame.specs.Frame.{header_length, sizes_at}
 use Rattle.device.specs.declared.DeviceRegion.{DeviceRegion}
 use Rattle.strip.specs.Reading.{commands_of}
 use Rattle.plans.specs.Drafts.{Outcome, turned, drafted, first_outcome, next_outcome}
@@ -27,7 +27,7 @@ entries header =
       Strip = List ℕ;
       Space = Slices;
       accepted = λ last s z. accepted (answer_of (lent_of z) (call_of header last s));
-      commands = λ s. commands_of (header ++ s) 12;
+      commands = λ s. commands_of (header ++ s) header_length;
       regions = λ last s z. drafted_regions (call_of header last s);
       words = λ last s z. published (answer_of (lent_of z) (call_of header last s)) (index_words_of (call_of header last s)) z.words;
     }
@@ -35,4 +35,4 @@ entries header =
 -- Demand 3: under every header, "width, height, band height, u32 each". The proof does not use the glyph rule, for a glyph is painted by its key, which
 -- has no box; nor, for the colours, that no two regions overlap: each leaves on its pixels what panel A shows.
 abbrev pub EntriesAgree : Type 1
-EntriesAgree = (header : List ℕ) → length header ≡ 12 → PanelsAgree (u32_at header 0) (u32_at header 4) (u32_at header 8) (entries header)
+EntriesAgree = (header : List ℕ) → length header ≡ header_length → PanelsAgree (sizes_at header) (entries header)

@@ -7,6 +7,7 @@ use Rattle.lists.specs.Members.{All, Pairs, In}
 use Rattle.device.specs.declared.DeviceRegion.{DeviceRegion}
 use Rattle.device.specs.Region.{has}
 use Rattle.commands.specs.Bounds.{Command}
+use Rattle.screen.specs.declared.Screen.{Screen}
 use Rattle.schedule_laws.specs.Placed.{Covers}
 use Rattle.index_words.specs.Painting.{paint_all, paint_at}
 use Rattle.candidates.specs.Table.{candidates, refusal}
@@ -67,12 +68,12 @@ module _ (P : Planner) where
   Orders last [] = Unit {0}
   Orders last (f ∷ fs) = (is_accepted last f ≡ true → OrderedBy last f) × Orders (last_after last f) fs
 
-  -- The header's width, height and band height; colours of any type; a painter. `absent` stands at the places past a strip's commands: it is any
+  -- The header's screen; colours of any type; a painter. `absent` stands at the places past a strip's commands: it is any
   -- command, for no such place is listed.
-  module _ (w h b : ℕ) {C : Type 0} (background : C) (paint : Command → Pixel w h → C → C) (absent : Command) where
+  module _ (screen : Screen) {C : Type 0} (background : C) (paint : Command → Pixel screen.width screen.height → C → C) (absent : Command) where
     -- "A panel is one colour per pixel"
     abbrev pub Panel : Type 0
-    Panel = Pixel w h → C
+    Panel = Pixel screen.width screen.height → C
 
     -- "every pixel becomes the background, then each command paints in order"
     unfoldable pub paint_whole : List Command → Panel
@@ -83,7 +84,7 @@ module _ (P : Planner) where
     unfoldable pub paint_region : List Command → List ℕ → DeviceRegion → Panel → Panel
     paint_region cs words r panel px =
         pick (has (Some r) px.p px.q)
-        (paint_at (λ c. paint c px) (λ i. get_or cs i absent) (candidates w h b r.y words) background)
+        (paint_at (λ c. paint c px) (λ i. get_or cs i absent) (candidates screen r.y words) background)
         (panel px)
 
     -- one region after the other
@@ -113,13 +114,13 @@ module _ (P : Planner) where
 
     -- ---- what is claimed
     abbrev pub SamePanels : State → Type 0
-    SamePanels s = (px : Pixel w h) → s.panel_a px ≡ s.panel_b px
+    SamePanels s = (px : Pixel screen.width screen.height) → s.panel_a px ≡ s.panel_b px
 
     -- of the regions of an accepted frame, the first one's too: no two overlap, none crosses a band edge, and `candidates` refuses none
     pub record Planned (last : Option P.Strip) (f : Frame P) : Type 0 where
       pub apart : Pairs Apart (P.regions last f.strip f.space)
-      pub in_band : All (InBand b) (P.regions last f.strip f.space)
-      pub answered : All (λ r. refusal w h b r.y (P.words last f.strip f.space) ≡ 0) (P.regions last f.strip f.space)
+      pub in_band : All (InBand screen.band_height) (P.regions last f.strip f.space)
+      pub answered : All (λ r. refusal screen r.y (P.words last f.strip f.space) ≡ 0) (P.regions last f.strip f.space)
 
     -- "one statement over the whole list, not one per call": the panels agree before each frame and after the last
     abbrev pub Agree : State → List (Frame P) → Type 0
@@ -127,10 +128,10 @@ module _ (P : Planner) where
     Agree s (f ∷ fs) = SamePanels s × (is_accepted s.last f ≡ true → Planned s.last f) × Agree (step s f) fs
 
 -- Demand 3, of a planner under a header: for all frames, all colours and every painter that keeps the rules over the accepted frames
-abbrev pub PanelsAgree : ℕ → ℕ → ℕ → Planner → Type 1
-PanelsAgree w h b P =
-    (frames : List (Frame P)) (C : Type 0) (background : C) (paint : Command → Pixel w h → C → C) (mark : Key → Pixel w h → C → C) (absent : Command)
-    → Rules w h C (Used P none frames) paint mark
+abbrev pub PanelsAgree : Screen → Planner → Type 1
+PanelsAgree screen P =
+    (frames : List (Frame P)) (C : Type 0) (background : C) (paint : Command → Pixel screen.width screen.height → C → C) (mark : Key → Pixel screen.width screen.height → C → C) (absent : Command)
+    → Rules screen.width screen.height C (Used P none frames) paint mark
     → GlyphRule (Used P none frames)
     → Orders P none frames
-    → Agree P w h b background paint absent (start P w h b background paint absent) frames
+    → Agree P screen background paint absent (start P screen background paint absent) frames

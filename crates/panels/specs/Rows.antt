@@ -3,7 +3,7 @@
 use Rattle.std.specs.Prelude.{◌≡◌, true, List, ◌++◌, ℕ, length}
 use Rattle.std.proofs.Math.Option.{Option}
 use Rattle.lists.specs.Members.{All}
-use Rattle.little_endian.specs.Words.{u32_at}
+use Rattle.frame.specs.Frame.{header_length, sizes_at}
 use Rattle.device.specs.declared.DeviceRegion.{DeviceRegion}
 use Rattle.candidates.specs.Table.{candidates, refusal}
 use Rattle.plans.specs.Space.{Slices, lent_of}
@@ -12,15 +12,14 @@ use Rattle.panels.specs.Entries.{call_of, entries}
 
 -- under a header, a region has its row in some words, and it is the row that it has in others
 pub record RowAlike (header words others : List ℕ) (r : DeviceRegion) : Type 0 where
-  pub answered : refusal (u32_at header 0) (u32_at header 4) (u32_at header 8) r.y words ≡ 0
-  pub alike :
-      candidates (u32_at header 0) (u32_at header 4) (u32_at header 8) r.y words ≡ candidates (u32_at header 0) (u32_at header 4) (u32_at header 8) r.y others
+  pub answered : refusal (sizes_at header) r.y words ≡ 0
+  pub alike : candidates (sizes_at header) r.y words ≡ candidates (sizes_at header) r.y others
 
 -- Every region of an accepted call has, in any words that begin with the plan's, the row that it has in the words that the call leaves; with no `rest` these
 -- are the words that the plan counts.
 abbrev pub SameRows : Type 0
 SameRows =
-    (header : List ℕ) → length header ≡ 12 → (last : Option (List ℕ)) (s : List ℕ) (z : Slices)
+    (header : List ℕ) → length header ≡ header_length → (last : Option (List ℕ)) (s : List ℕ) (z : Slices)
     → accepted (answer_of (lent_of z) (call_of header last s)) ≡ true
     → (rest : List ℕ)
     → All (RowAlike header (index_words_of (call_of header last s) ++ rest) ((entries header).words last s z)) ((entries header).regions last s z)

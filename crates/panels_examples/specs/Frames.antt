@@ -8,6 +8,7 @@ use Rattle.geometry.specs.declared.Rect.{Rect}
 use Rattle.device.specs.declared.DeviceRegion.{DeviceRegion}
 use Rattle.commands.specs.Bounds.{Command}
 use Rattle.plans.specs.Space.{Slices}
+use Rattle.screen.specs.Sizes.{screen}
 use Rattle.painting.specs.Painters.{Pixel, Key}
 use Rattle.painting.specs.Inked as Inked
 use Rattle.panels.specs.Panels.{Planner, Frame, State, start, step}
@@ -74,8 +75,8 @@ abbrev pub mark : Key → Pixel 8 8 → ℕ → ℕ
 mark = Inked.mark ink
 
 -- ---- the panels
-abbrev pub after : List (Frame P) → State P 8 8 4 0 paint (cell 0)
-after frames = foldl (step P 8 8 4 0 paint (cell 0)) (start P 8 8 4 0 paint (cell 0)) frames
+abbrev pub after : List (Frame P) → State P (screen 8 8 4) 0 paint (cell 0)
+after frames = foldl (step P (screen 8 8 4) 0 paint (cell 0)) (start P (screen 8 8 4) 0 paint (cell 0)) frames
 
 abbrev pub before_turn : List (Frame P)
 before_turn = first ∷ cut ∷ crowded ∷ []

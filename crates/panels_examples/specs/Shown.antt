@@ -4,6 +4,7 @@ use Rattle.refusals.specs.declared.Refusal.{Refusal}
 use Rattle.refusals.specs.Table.{refused}
 use Rattle.std.specs.Prelude.{◌≡◌, [], ◌∷◌, ℕ, ◌<◌, Result, Ok}
 use Rattle.std.proofs.Math.Option.{Option, none, some}
+use Rattle.screen.specs.Sizes.{screen}
 use Rattle.painting.specs.Painters.{Rules, GlyphRule}
 use Rattle.runtime.specs.Work.{work_of}
 use Rattle.plans.specs.declared.Plan.{Plan}
@@ -19,7 +20,7 @@ abbrev pub answer : Option P.Strip → Frame P → Result Plan Refusal
 answer last f = answer_of (lent_of f.space) (call_of header last f.strip)
 
 -- both panels show colour k at pixel (p, q), which is one of the screen
-abbrev pub Show : State P 8 8 4 0 paint (cell 0) → ℕ → ℕ → ℕ → Type 0
+abbrev pub Show : State P (screen 8 8 4) 0 paint (cell 0) → ℕ → ℕ → ℕ → Type 0
 Show s p q k = (i : p < 8) × (j : q < 8) × (s.panel_a (at p q i j) ≡ k) × (s.panel_b (at p q i j) ≡ k)
 
 -- at pixel (p, q) both panels show k before the turn, and l after it
@@ -41,7 +42,7 @@ pub record Shown : Type 0 where
   pub glyph_rule : GlyphRule (Used P none frames)
   pub orders : Orders P none frames
   -- what it says
-  pub agree : Agree P 8 8 4 0 paint (cell 0) (start P 8 8 4 0 paint (cell 0)) frames
+  pub agree : Agree P (screen 8 8 4) 0 paint (cell 0) (start P (screen 8 8 4) 0 paint (cell 0)) frames
   -- a pixel that the cell left, and one that it came to
   pub cell_left : Turns 1 3 1 0
   pub cell_came : Turns 5 3 0 1

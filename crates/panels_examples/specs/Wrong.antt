@@ -1,6 +1,7 @@
 -- Two wrong planners of the reviewer's list, each told from the entries by demand 3.
 use Rattle.std.specs.Prelude.{List, []}
 use Rattle.std.proofs.Math.Option.{Option, none, some}
+use Rattle.screen.specs.Sizes.{screen}
 use Rattle.device.specs.declared.DeviceRegion.{DeviceRegion}
 use Rattle.panels.specs.Panels.{Planner, PanelsAgree}
 use Rattle.panels_examples.specs.Frames.{P}
@@ -34,6 +35,6 @@ mute =
     }
 
 pub record ToldApart : Type 1 where
-  pub entries_keep : PanelsAgree 8 8 4 P
-  pub quiet_breaks : PanelsAgree 8 8 4 quiet → ⊥
-  pub mute_breaks : PanelsAgree 8 8 4 mute → ⊥
+  pub entries_keep : PanelsAgree (screen 8 8 4) P
+  pub quiet_breaks : PanelsAgree (screen 8 8 4) quiet → ⊥
+  pub mute_breaks : PanelsAgree (screen 8 8 4) mute → ⊥

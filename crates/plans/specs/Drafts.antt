@@ -13,7 +13,7 @@ use Rattle.strip.specs.Reading.{commands_of}
 use Rattle.screen.specs.declared.Screen.{Screen}
 use Rattle.frame.specs.declared.Strips.{Strips}
 use Rattle.strip.specs.declared.Cursor.{Cursor}
-use Rattle.frame.specs.Frame.{header_of, first_of, both_of}
+use Rattle.frame.specs.Frame.{header_length, header_of, first_of, both_of}
 
 -- changed rectangles, scheduled regions, index words, and "commands emitted are the new strip's drawing commands"
 pub record Draft : Type 0 where
@@ -22,13 +22,13 @@ pub record Draft : Type 0 where
   pub words : List ℕ
   pub emitted : ℕ
 
--- of these rectangles and the new strip's commands, on a screen of w by h in bands of b
-abbrev pub draft : ℕ → ℕ → ℕ → List Rect → List Command → Draft
-draft w h b rects commands =
+-- of these rectangles and the new strip's commands, on a screen
+abbrev pub draft : Screen → List Rect → List Command → Draft
+draft screen rects commands =
     record {
       rects = rects;
-      regions = schedule w h b rects;
-      words = index_words b (row_count h b) (map bounds commands);
+      regions = schedule screen rects;
+      words = index_words screen.band_height (row_count screen.height screen.band_height) (map bounds commands);
       emitted = length commands;
     }
 
@@ -43,30 +43,33 @@ pub data Outcome : Type 0 where
   drafted : Items → Draft → Outcome
 
 -- "A first frame has one rectangle, the whole screen."
-abbrev pub screen_rect : ℕ → ℕ → Rect
-screen_rect w h = record { x0 = whole 0; y0 = whole 0; x1 = whole w; y1 = whole h }
+abbrev pub screen_rect : Screen → Rect
+screen_rect screen = record { x0 = whole 0; y0 = whole 0; x1 = whole screen.width; y1 = whole screen.height }
 
-abbrev pub on_first : ℕ → ℕ → ℕ → List ℕ → Result Cursor Refusal → Outcome
-on_first w h b s (Ok new) = drafted (record { commands = new.commands; glyphs = new.glyphs; clips = new.clips }) (draft w h b (screen_rect w h ∷ []) (commands_of s 12))
-on_first w h b s (Err why) = turned why
+abbrev pub items_of : Cursor → Items
+items_of end = record { commands = end.commands; glyphs = end.glyphs; clips = end.clips }
 
-abbrev pub on_both : ℕ → ℕ → ℕ → List ℕ → Result Strips Refusal → Outcome
-on_both w h b s (Ok both) =
-    let old = both.old in
-    let new = both.new in
-    drafted (record { commands = old.commands + new.commands; glyphs = old.glyphs + new.glyphs; clips = old.clips + new.clips })
-    (draft w h b (diff_dirty (commands_of s 12) (commands_of s old.at)) (commands_of s old.at))
-on_both w h b s (Err why) = turned why
+abbrev pub items_of_both : Cursor → Cursor → Items
+items_of_both old new = record { commands = old.commands + new.commands; glyphs = old.glyphs + new.glyphs; clips = old.clips + new.clips }
+
+abbrev pub on_first : Screen → List ℕ → Result Cursor Refusal → Outcome
+on_first screen s (Ok new) = drafted (items_of new) (draft screen (screen_rect screen ∷ []) (commands_of s header_length))
+on_first screen s (Err why) = turned why
+
+abbrev pub on_both : Screen → List ℕ → Result Strips Refusal → Outcome
+on_both screen s (Ok both) =
+    drafted (items_of_both both.old both.new) (draft screen (diff_dirty (commands_of s header_length) (commands_of s both.old.at)) (commands_of s both.old.at))
+on_both screen s (Err why) = turned why
 
 -- 1 and 2 of the header have position 0
-abbrev pub on_header : Result Screen Refusal → (ℕ → ℕ → ℕ → Outcome) → Outcome
-on_header (Ok sizes) k = k sizes.width sizes.height sizes.band_height
+abbrev pub on_header : Result Screen Refusal → (Screen → Outcome) → Outcome
+on_header (Ok screen) k = k screen
 on_header (Err why) k = turned why
 
 -- "A first frame has an entry point of its own: header and one strip, the same checks."
 unfoldable pub first_outcome : List ℕ → Outcome
-first_outcome s = on_header (header_of s) (λ w h b. on_first w h b s (first_of s))
+first_outcome s = on_header (header_of s) (λ screen. on_first screen s (first_of s))
 
 -- "The header .. Then the old strip, then the new."
 unfoldable pub next_outcome : List ℕ → Outcome
-next_outcome s = on_header (header_of s) (λ w h b. on_both w h b s (both_of s))
+next_outcome s = on_header (header_of s) (λ screen. on_both screen s (both_of s))

@@ -51,13 +51,13 @@ Records s at clips commands z y r = WhereRead (λ t. Holds clips commands s z �
 -- the strip of a first frame
 abbrev pub RecordsFirst : List ℕ → Space → Result Cursor Refusal → Type 0
 RecordsFirst s y (Ok new) =
-    Room new.clips new.commands y → Holds new.clips new.commands s y × (commands_in s y.boxes y.below y.items 0 new.commands ≡ commands_of s 12)
+    Room new.clips new.commands y → Holds new.clips new.commands s y × (commands_in s y.boxes y.below y.items 0 new.commands ≡ commands_of s header_length)
 RecordsFirst s y (Err why) = Unit {0}
 
 -- the old strip's commands, then the new one's
 pub record Two (s : List ℕ) (old new : Cursor) (y : Space) : Type 0 where
   pub held : Holds (old.clips + new.clips) (old.commands + new.commands) s y
-  pub old_list : commands_in s y.boxes y.below y.items 0 old.commands ≡ commands_of s 12
+  pub old_list : commands_in s y.boxes y.below y.items 0 old.commands ≡ commands_of s header_length
   pub new_list : commands_in s y.boxes y.below y.items old.commands new.commands ≡ commands_of s old.at
 
 -- the new strip, recorded behind the old one, which is held

@@ -4,6 +4,7 @@ use Rattle.std.specs.Prelude.{◌≡◌, ◌⊎◌, List, ℕ, ◌+◌, ◌*◌,
 use Rattle.lists.specs.Members.{All, Any, Pairs}
 use Rattle.floats.specs.Whole.{whole}
 use Rattle.geometry.specs.declared.Rect.{Rect}
+use Rattle.screen.specs.declared.Screen.{Screen}
 use Rattle.device.specs.declared.DeviceRegion.{DeviceRegion}
 use Rattle.device.specs.Region.{right, bottom}
 use Rattle.bands.specs.Bands.{yx, Gap}
@@ -23,9 +24,9 @@ pub record OnScreen (w h : ℕ) (r : DeviceRegion) : Type 0 where
   pub down : bottom r ≤ h
 
 -- it is on the screen and crosses no band edge: it ends where the band of its first row ends, or above
-pub record Placed (w h b : ℕ) (r : DeviceRegion) : Type 0 where
-  pub on : OnScreen w h r
-  pub one_band : bottom r ≤ r.y / b * b + b
+pub record Placed (s : Screen) (r : DeviceRegion) : Type 0 where
+  pub on : OnScreen s.width s.height r
+  pub one_band : bottom r ≤ r.y / s.band_height * s.band_height + s.band_height
 
 -- two of one band have at least one column between them
 unfoldable pub Clear : ℕ → DeviceRegion → DeviceRegion → Type 0
@@ -36,9 +37,9 @@ abbrev pub Before : DeviceRegion → DeviceRegion → Type 0
 Before r s = yx r < yx s
 
 -- what every schedule is, and what is its own schedule
-pub record Schedulable (w h b : ℕ) (l : List DeviceRegion) : Type 0 where
-  pub placed : All (Placed w h b) l
-  pub clear : Pairs (Clear b) l
+pub record Schedulable (s : Screen) (l : List DeviceRegion) : Type 0 where
+  pub placed : All (Placed s) l
+  pub clear : Pairs (Clear s.band_height) l
   pub ascends : Pairs Before l
 
 -- c is one of the region's columns

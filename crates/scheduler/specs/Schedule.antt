@@ -1,39 +1,31 @@
 -- A schedule, as document 01's compositor.rs has it: "bands from the top, the last cut to the screen; in each" what `bands` says.
 -- "Counts: regions, and pixels as the sum of width times height".
-use Rattle.std.specs.Prelude.{◌≡◌, ℕ, zero, suc, ◌+◌, ◌-◌, ◌*◌, ◌/◌, ◌≤◌, ◌<◌, min, List, [], ◌∷◌, ◌++◌, leb, length, drop, get_or, Option, Some, None}
+use Rattle.std.specs.Prelude.{◌≡◌, ℕ, zero, suc, ◌+◌, ◌-◌, ◌*◌, ◌/◌, ◌≤◌, min, List, [], ◌∷◌, ◌++◌, leb, length, drop, get_or, Option, Some, None}
 use Rattle.lists.specs.Pick.{pick}
 use Rattle.lists.specs.Tables.{tabulate}
 use Rattle.geometry.specs.declared.Rect.{Rect}
 use Rattle.device.specs.declared.DeviceRegion.{DeviceRegion}
 use Rattle.device.specs.Region.{area}
 use Rattle.rows.specs.Rows.{row_count}
+use Rattle.screen.specs.declared.Screen.{Screen}
 use Rattle.bands.specs.Bands.{regions_of, band_regions}
 use Rattle.scheduler.specs.declared.Totals.{Totals}
 
--- the sizes that document 01's header admits
-pub record Sizes (w h b : ℕ) : Type 0 where
-  pub some_width : 0 < w
-  pub width_most : w ≤ 32768
-  pub some_height : 0 < h
-  pub height_most : h ≤ 32768
-  pub some_band : 0 < b
-  pub band_most : b ≤ 32768
-
 -- the band that starts at a row, "the last cut to the screen"
-abbrev pub band_from : ℕ → ℕ → ℕ → ℕ → DeviceRegion
-band_from w h b row = record { x = 0; y = row; width = w; height = min b (h - row) }
+abbrev pub band_from : Screen → ℕ → DeviceRegion
+band_from s row = record { x = 0; y = row; width = s.width; height = min s.band_height (s.height - row) }
 
 -- the regions of the first j bands, "from the top"
-unfoldable pub bands_to : ℕ → ℕ → ℕ → List DeviceRegion → ℕ → List DeviceRegion
-bands_to w h b l zero = []
-bands_to w h b l (suc j) = bands_to w h b l j ++ band_regions (band_from w h b (j * b)) l
+unfoldable pub bands_to : Screen → List DeviceRegion → ℕ → List DeviceRegion
+bands_to s l zero = []
+bands_to s l (suc j) = bands_to s l j ++ band_regions (band_from s (j * s.band_height)) l
 
 -- the schedule of regions, and of boxes
-abbrev pub schedule_of : ℕ → ℕ → ℕ → List DeviceRegion → List DeviceRegion
-schedule_of w h b l = bands_to w h b l (row_count h b)
+abbrev pub schedule_of : Screen → List DeviceRegion → List DeviceRegion
+schedule_of s l = bands_to s l (row_count s.height s.band_height)
 
-abbrev pub schedule : ℕ → ℕ → ℕ → List Rect → List DeviceRegion
-schedule w h b rects = schedule_of w h b (regions_of w h rects)
+abbrev pub schedule : Screen → List Rect → List DeviceRegion
+schedule s rects = schedule_of s (regions_of s.width s.height rects)
 
 -- "pixels as the sum of width times height"
 unfoldable pub pixels_of : List DeviceRegion → ℕ

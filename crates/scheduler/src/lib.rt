@@ -6,6 +6,7 @@ ghost use Rattle.std.specs.Prelude.{◌≡◌, map, ◌++◌, ◌≤◌, ◌<◌
 ghost use Rattle.bands.specs.Bands as Bands;
 ghost use Rattle.bands.specs.Keys as Keys;
 ghost use Rattle.rect_words.specs.Words as Words;
+ghost use Rattle.screen.specs.Sizes.{fits};
 ghost use Rattle.scheduler.specs.Schedule as Schedule;
 
 use device::DeviceRegion;
@@ -21,7 +22,7 @@ pub struct Totals {
 // The band that starts at a row of the screen, cut to the screen.
 fn band_at(screen: Screen, row: u32) -> DeviceRegion
     requires { row < screen.height }
-    ensures { result ≡ Schedule.band_from screen.width screen.height screen.band_height row }
+    ensures { result ≡ Schedule.band_from screen row }
 {
     DeviceRegion {
         x: 0,
@@ -58,9 +59,9 @@ fn put_band(work: &[u64], out: &mut [u32]) -> u64
 // The regions of a screen for boxes of four edges each, as words at the front of out: x, y, width and height of each. None where
 // out has no room for all of them: what it holds is then left open. The bands go by number, which gives the row that each begins at.
 pub fn schedule(rects: &[f64], screen: Screen, work: &mut [u64], out: &mut [u32]) -> Option<Totals>
-    requires sizes { Schedule.Sizes screen.width screen.height screen.band_height }
+    requires sizes { fits screen ≡ true }
     requires n_in_bounds { length rects.now / 4 ≤ length work.old }
-    ensures { Schedule.Answers (Schedule.schedule screen.width screen.height screen.band_height (Words.boxes_to rects.now (length rects.now / 4))) out.old result out.new }
+    ensures { Schedule.Answers (Schedule.schedule screen (Words.boxes_to rects.now (length rects.now / 4))) out.old result out.new }
 {
     let room = out.len() / 4;
     let mut count: usize = 0;

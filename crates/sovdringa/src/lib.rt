@@ -8,6 +8,7 @@ ghost use Rattle.plans.specs.Drafts.{first_outcome, next_outcome};
 ghost use Rattle.plans.specs.Answers as Answers;
 ghost use Rattle.planner.specs.Calls.{slices, Zeros, ZeroFloats};
 ghost use Rattle.candidates.specs.Table as Table;
+ghost use Rattle.screen.specs.Sizes as Sizes;
 ghost use Rattle.answer_words.specs.Words.{overwritten, answer_words, part_words};
 ghost use Rattle.sovdringa.specs.Calls.{first_plan, next_plan};
 
@@ -116,8 +117,8 @@ pub extern "C" fn sovdringa_candidates(
     words: &[u32],
     part: &mut [u64],
 ) -> u32
-    ensures number { result ≡ Table.refusal width height band_height y words.now }
-    ensures row { part.new ≡ overwritten (part_words (Table.find width height band_height y words.now)) part.old }
+    ensures number { result ≡ Table.refusal (Sizes.screen width height band_height) y words.now }
+    ensures row { part.new ≡ overwritten (part_words (Table.find (Sizes.screen width height band_height) y words.now)) part.old }
 {
     let screen = Screen {
         width,

@@ -15,6 +15,7 @@ use Rattle.commands.specs.declared.DrawCommand.{DrawCommand}
 use Rattle.commands.specs.declared.DrawCommand.TheVariants.{FillPath, StrokePath}
 use Rattle.commands.specs.Bounds.{Command, bounds}
 use Rattle.changes.specs.Changes.{changed_bounds}
+use Rattle.screen.specs.Sizes.{screen}
 use Rattle.scheduler.specs.Schedule.{schedule}
 
 infixl 70 ◌÷◌
@@ -37,7 +38,7 @@ region x y w h = record { x = x; y = y; width = w; height = h }
 
 -- one band: a screen of 16 by 16
 abbrev one_band : List Rect → List DeviceRegion
-one_band rects = schedule 16 16 16 rects
+one_band rects = schedule (screen 16 16 16) rects
 
 -- a command where it is drawn, with its open clips
 abbrev identity : Affine
