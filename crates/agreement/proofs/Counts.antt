@@ -24,7 +24,7 @@ use Rattle.strip_laws.proofs.Counts.{glyph_total, Counted, strip_counted}
 use Rattle.frame.specs.declared.Strips.{Strips}
 use Rattle.frame.specs.Frame.{strips, ended, with_old, then_new, then_end, then_strips, first_of, both_of}
 use Rattle.plans.specs.Space.{Lent}
-use Rattle.plans.specs.Drafts.{Items}
+use Rattle.plans.specs.Drafts.{items_of, items_of_both}
 use Rattle.plans.specs.Answers.{items_fit}
 use Rattle.agreement.specs.Agree.{Agree, AgreeAll}
 use Rattle.agreement.specs.Plans.{FirstAgree, NextAgree}
@@ -77,12 +77,6 @@ module _ (cs ds : List Command) (c d : Cursor) (h : Counted cs c) (k : Counted d
   glyphs_are = h.glyphs ∙ glyphs_same cs ds a ∙ sym k.glyphs
 
 -- ---- items fit alike
-abbrev pub items_of : Cursor → Items
-items_of c = record { commands = c.commands; glyphs = c.glyphs; clips = c.clips }
-
-abbrev pub items_of_both : Cursor → Cursor → Items
-items_of_both old new = record { commands = old.commands + new.commands; glyphs = old.glyphs + new.glyphs; clips = old.clips + new.clips }
-
 pub first_room : (z : Lent) (s t : List ℕ) (c d : Cursor) → FirstAgree z s t c d → items_fit z (items_of c) ≡ items_fit z (items_of d)
 unfolding items_fit
 first_room z s t c d a =

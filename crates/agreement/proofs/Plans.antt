@@ -19,13 +19,13 @@ use Rattle.strip.specs.Reading.{commands_of}
 use Rattle.screen.specs.declared.Screen.{Screen}
 use Rattle.frame.specs.Frame.{strips, header_of, first_of, both_of}
 use Rattle.plans.specs.declared.Plan.{Plan}
-use Rattle.plans.specs.Drafts.{Draft, draft, Items, Outcome, drafted, screen_rect, on_first, on_both, on_header, first_outcome, next_outcome}
+use Rattle.plans.specs.Drafts.{Draft, draft, Items, items_of, items_of_both, Outcome, drafted, screen_rect, on_first, on_both, on_header, first_outcome, next_outcome}
 use Rattle.plans.specs.Space.{Lent}
 use Rattle.plans.specs.Answers.{items_fit, answer_of, rect_words_of, region_words_of, index_words_of, published}
 use Rattle.plans.proofs.Values.{SameDraft, draft_same, answer_same, rect_words_same}
 use Rattle.agreement.specs.Plans.{FirstAgree, NextAgree, SamePlan, SameByValue}
 use Rattle.agreement.proofs.Strips.{strips_matched}
-use Rattle.agreement.proofs.Counts.{items_of, items_of_both, first_room, next_room}
+use Rattle.agreement.proofs.Counts.{first_room, next_room}
 
 -- drafts that only the signs of zero edges tell apart, with items that fit alike
 drafts_plan : (z : Lent) (i j : Items) (d e : Draft) → SameDraft d e → items_fit z i ≡ items_fit z j → SamePlan z (drafted i d) (drafted j e)
@@ -37,9 +37,9 @@ drafts_plan z i j d e s r = record {
 }
 
 -- headers of the same sizes, or one refusal
-module _ (z : Lent) (f g : ℕ → ℕ → ℕ → Outcome) (same : (w h b : ℕ) → SamePlan z (f w h b) (g w h b)) where
+module _ (z : Lent) (f g : Screen → Outcome) (same : (screen : Screen) → SamePlan z (f screen) (g screen)) where
   on_header_lem : (x : Result Screen Refusal) → SamePlan z (on_header x f) (on_header x g)
-  on_header_lem (Ok sizes) = same sizes.width sizes.height sizes.band_height
+  on_header_lem (Ok screen) = same screen
   on_header_lem (Err why) = record { answer = refl; regions = refl; index = refl; rects = place_none Same }
 
   on_headers : (x y : Result Screen Refusal) → x ≡ y → SamePlan z (on_header x f) (on_header y g)
@@ -49,29 +49,29 @@ module _ (z : Lent) (f g : ℕ → ℕ → ℕ → Outcome) (same : (w h b : ℕ
 module _ (z : Lent) (s t : List ℕ) where
   first_plans : (c d : Cursor) → FirstAgree z s t c d → SamePlan z (first_outcome s) (first_outcome t)
   unfolding first_outcome
-  first_plans c d a = on_headers z (λ w h b. on_first w h b s (first_of s)) (λ w h b. on_first w h b t (first_of t)) (λ w h b. rw (a.read, a.other_read) (drafts w h b)) (header_of s) (header_of t) a.sizes
+  first_plans c d a = on_headers z (λ screen. on_first screen s (first_of s)) (λ screen. on_first screen t (first_of t)) (λ screen. rw (a.read, a.other_read) (drafts screen)) (header_of s) (header_of t) a.sizes
     where
-      drafts : (w h b : ℕ) → SamePlan z (on_first w h b s (Ok c)) (on_first w h b t (Ok d))
-      drafts w h b =
-          let r = screen_rect w h ∷ [] in
-          drafts_plan z (items_of c) (items_of d) (draft w h b r (commands_of s 12)) (draft w h b r (commands_of t 12))
-          (draft_same w h b r r (commands_of s 12) (commands_of t 12) (place_one SameBox (screen_rect w h) (screen_rect w h) (box_self (screen_rect w h))) (strips_matched s t 12 12 a.commands))
+      drafts : (screen : Screen) → SamePlan z (on_first screen s (Ok c)) (on_first screen t (Ok d))
+      drafts screen =
+          let r = screen_rect screen ∷ [] in
+          drafts_plan z (items_of c) (items_of d) (draft screen r (commands_of s 12)) (draft screen r (commands_of t 12))
+          (draft_same screen r r (commands_of s 12) (commands_of t 12) (place_one SameBox (screen_rect screen) (screen_rect screen) (box_self (screen_rect screen))) (strips_matched s t 12 12 a.commands))
           (first_room z s t c d a)
 
   next_plans : (old new old' new' : Cursor) → NextAgree z s t old new old' new' → SamePlan z (next_outcome s) (next_outcome t)
   unfolding next_outcome
-  next_plans old new old' new' a = on_headers z (λ w h b. on_both w h b s (both_of s)) (λ w h b. on_both w h b t (both_of t)) (λ w h b. rw (a.read, a.other_read) (drafts w h b)) (header_of s) (header_of t) a.sizes
+  next_plans old new old' new' a = on_headers z (λ screen. on_both screen s (both_of s)) (λ screen. on_both screen t (both_of t)) (λ screen. rw (a.read, a.other_read) (drafts screen)) (header_of s) (header_of t) a.sizes
     where
-      drafts : (w h b : ℕ) → SamePlan z (on_both w h b s (Ok (strips old new))) (on_both w h b t (Ok (strips old' new')))
-      drafts w h b =
+      drafts : (screen : Screen) → SamePlan z (on_both screen s (Ok (strips old new))) (on_both screen t (Ok (strips old' new')))
+      drafts screen =
           let os = commands_of s 12 in
           let os' = commands_of t 12 in
           let ns = commands_of s old.at in
           let ns' = commands_of t old'.at in
           let p = strips_matched s t 12 12 a.old_commands in
           let q = strips_matched s t old.at old'.at a.new_commands in
-          drafts_plan z (items_of_both old new) (items_of_both old' new') (draft w h b (diff_dirty os ns) ns) (draft w h b (diff_dirty os' ns') ns')
-          (draft_same w h b (diff_dirty os ns) (diff_dirty os' ns') ns ns' (diff_dirty_same os os' ns ns' p q) q)
+          drafts_plan z (items_of_both old new) (items_of_both old' new') (draft screen (diff_dirty os ns) ns) (draft screen (diff_dirty os' ns') ns')
+          (draft_same screen (diff_dirty os ns) (diff_dirty os' ns') ns ns' (diff_dirty_same os os' ns ns' p q) q)
           (next_room z s t old new old' new' a)
 
 pub same_by_value : SameByValue

@@ -11,7 +11,6 @@ use Rattle.floats.specs.Whole.{whole}
 use Rattle.geometry.specs.declared.Rect.{Rect}
 use Rattle.rect_list.specs.Rects.{Added, Listed}
 use Rattle.rect_list.proofs.Appends.{listed}
-use Rattle.scheduler.specs.Schedule.{Sizes}
 use Rattle.changes.specs.Changes.{diff_dirty}
 use Rattle.strip.specs.declared.Cursor.{Cursor}
 use Rattle.strip.specs.Reading.{commands_of}
@@ -42,8 +41,8 @@ use Rattle.frame_drafts.proofs.Judgements.{answered, no_items}
 use Rattle.rect_words.specs.Words.{boxes_to}
 
 -- what is lent for a call, with this scratch for its lists
-abbrev lent_for : Space → List ℕ → ℕ → ℕ → ℕ → Lent
-lent_for z glyphs R G W = lent_scratch z.boxes z.below z.items z.item_boxes glyphs R G W
+abbrev scratch_for : Space → List ℕ → ℕ → ℕ → ℕ → Lent
+scratch_for z glyphs R G W = lent_scratch z.boxes z.below z.items z.item_boxes glyphs R G W
 
 -- what was counted, as the items of an outcome
 abbrev of_counts : Counts → Items
@@ -54,8 +53,8 @@ Meets z o p rs gs ws = (p ≡ answer_of z o) × StandsFor p o rs gs ws
 
 -- ---- two strips
 module _ (s : List ℕ) {z y : Space} (glyphs : List ℕ) {r : Result Strips Refusal} (a : r ≡ both_of s) (l : SameLengths z y) (k : RecordsBoth s y r) where
-  pub next_refused : (why : Refusal) → r ≡ Err why → (w h b R G W : ℕ) → Err why ≡ answer_of (lent_for z glyphs R G W) (on_both w h b s (both_of s))
-  next_refused why q w h b R G W = rw (sym (sym q ∙ a)) refl
+  pub next_refused : (why : Refusal) → r ≡ Err why → (screen : Screen) (R G W : ℕ) → Err why ≡ answer_of (scratch_for z glyphs R G W) (on_both screen s (both_of s))
+  next_refused why q screen R G W = rw (sym (sym q ∙ a)) refl
 
   module _ {both : Strips} (q : r ≡ Ok both) where
     abbrev old : Cursor
@@ -84,8 +83,8 @@ module _ (s : List ℕ) {z y : Space} (glyphs : List ℕ) {r : Result Strips Ref
       both_judged : t ≡ items_fit (lent_scratch y.boxes y.below y.items y.item_boxes glyphs 0 0 0) items
       both_judged = judges ∙ ap (items_fit (lent_scratch y.boxes y.below y.items y.item_boxes glyphs 0 0 0)) same_counts
 
-      pub next_over : t ≡ false → (w h b R G W : ℕ) → refused NoRoom 0 ≡ answer_of (lent_for z glyphs R G W) (on_both w h b s (both_of s))
-      next_over e w h b R G W = rw (sym (sym q ∙ a)) (no_items (lent_for z glyphs R G W) _ _ (sym (items_same z y glyphs R G W _ l) ∙ sym both_judged ∙ e))
+      pub next_over : t ≡ false → (screen : Screen) (R G W : ℕ) → refused NoRoom 0 ≡ answer_of (scratch_for z glyphs R G W) (on_both screen s (both_of s))
+      next_over e screen R G W = rw (sym (sym q ∙ a)) (no_items (scratch_for z glyphs R G W) _ _ (sym (items_same z y glyphs R G W _ l) ∙ sym both_judged ∙ e))
 
       module _ (e : t ≡ true) where
         both_fit : Room (old.clips + new.clips) (old.commands + new.commands) y
@@ -98,8 +97,8 @@ module _ (s : List ℕ) {z y : Space} (glyphs : List ℕ) {r : Result Strips Ref
         next_stored = (two.held.stored, next_within.0.commands, next_within.1.commands)
 
         pub next_stands : {before rs : List Float} {n : ℕ} → Listed before (diff_dirty (commands_in s y.boxes y.below y.items 0 old.commands) (commands_in s y.boxes y.below y.items old.commands new.commands)) rs n
-            → (w h b : ℕ) → Stand w h b (on_both w h b s (both_of s)) z glyphs before rs y.items y.item_boxes (record { first = old.commands; commands = new.commands; n = n })
-        next_stands {before} {rs} {n} x w h b =
+            → (screen : Screen) → Stand screen (on_both screen s (both_of s)) z glyphs before rs y.items y.item_boxes (record { first = old.commands; commands = new.commands; n = n })
+        next_stands {before} {rs} {n} x screen =
             let o = two.old_list in
             let u = two.new_list in
             record {
@@ -117,16 +116,16 @@ module _ (s : List ℕ) {z y : Space} (glyphs : List ℕ) {r : Result Strips Ref
             }
 
 -- ---- one strip
-module _ (s : List ℕ) (w h b : ℕ) {z y : Space} (glyphs : List ℕ) {r : Result Cursor Refusal} (a : r ≡ first_of s) (l : SameLengths z y) (k : RecordsFirst s y r) where
-  pub first_refused : (why : Refusal) → r ≡ Err why → (R G W : ℕ) → Err why ≡ answer_of (lent_for z glyphs R G W) (on_first w h b s (first_of s))
+module _ (s : List ℕ) (screen : Screen) {z y : Space} (glyphs : List ℕ) {r : Result Cursor Refusal} (a : r ≡ first_of s) (l : SameLengths z y) (k : RecordsFirst s y r) where
+  pub first_refused : (why : Refusal) → r ≡ Err why → (R G W : ℕ) → Err why ≡ answer_of (scratch_for z glyphs R G W) (on_first screen s (first_of s))
   first_refused why q R G W = rw (sym (sym q ∙ a)) refl
 
   module _ {new : Cursor} (q : r ≡ Ok new) {counts : Counts} (counted : counts ≡ counted new) {t : Bool} (judges : t ≡ items_fit (lent_scratch y.boxes y.below y.items y.item_boxes glyphs 0 0 0) (of_counts counts)) where
     judged_one : t ≡ items_fit (lent_scratch y.boxes y.below y.items y.item_boxes glyphs 0 0 0) (of_counts (counted new))
     judged_one = judges ∙ ap (λ (x : Counts). items_fit (lent_scratch y.boxes y.below y.items y.item_boxes glyphs 0 0 0) (of_counts x)) counted
 
-    pub first_over : t ≡ false → (R G W : ℕ) → refused NoRoom 0 ≡ answer_of (lent_for z glyphs R G W) (on_first w h b s (first_of s))
-    first_over e R G W = rw (sym (sym q ∙ a)) (no_items (lent_for z glyphs R G W) _ _ (sym (items_same z y glyphs R G W _ l) ∙ sym judged_one ∙ e))
+    pub first_over : t ≡ false → (R G W : ℕ) → refused NoRoom 0 ≡ answer_of (scratch_for z glyphs R G W) (on_first screen s (first_of s))
+    first_over e R G W = rw (sym (sym q ∙ a)) (no_items (scratch_for z glyphs R G W) _ _ (sym (items_same z y glyphs R G W _ l) ∙ sym judged_one ∙ e))
 
     module _ (e : t ≡ true) where
       one_fits : Room new.clips new.commands y
@@ -138,11 +137,11 @@ module _ (s : List ℕ) (w h b : ℕ) {z y : Space} (glyphs : List ℕ) {r : Res
       stored : Stored (0 + new.commands) s y.boxes y.below y.items y.item_boxes
       stored = let c : new.commands ≡ 0 + new.commands = omega arith in subst (λ (n : ℕ). Stored n s y.boxes y.below y.items y.item_boxes) c one.0.stored
 
-      pub first_stands : {before rs : List Float} {n : ℕ} {whole_screen : Rect} → whole_screen ≡ screen_rect w h → Added 1 before 0 (whole_screen ∷ []) rs n
-          → Stand w h b (on_first w h b s (first_of s)) z glyphs before rs y.items y.item_boxes (record { first = 0; commands = new.commands; n = n })
+      pub first_stands : {before rs : List Float} {n : ℕ} {whole_screen : Rect} → whole_screen ≡ screen_rect screen → Added 1 before 0 (whole_screen ∷ []) rs n
+          → Stand screen (on_first screen s (first_of s)) z glyphs before rs y.items y.item_boxes (record { first = 0; commands = new.commands; n = n })
       first_stands {before} {rs} {n} is x = record {
         items = record { commands = new.commands; glyphs = new.glyphs; clips = new.clips };
-        rects = screen_rect w h ∷ [];
+        rects = screen_rect screen ∷ [];
         commands = commands_of s 12;
         is_draft = rw (sym (sym q ∙ a)) refl;
         fit = sym (items_same z y glyphs 0 0 0 _ l) ∙ sym judged_one ∙ e;
@@ -164,7 +163,7 @@ zero_whole = refl
 pub new_part : (f k : ℕ) (xs : List Float) → take (4 * (f + k) - 4 * f) (drop (4 * f) xs) ≡ take (4 * k) (drop (4 * f) xs)
 new_part f k xs = let e : 4 * (f + k) - 4 * f ≡ 4 * k = omega arith in ap (λ (m : ℕ). take m (drop (4 * f) xs)) e
 
-module _ (w h b : ℕ) (o : Outcome) (z : Space) (glyphs : List ℕ) (before rs : List Float) (is : List ℕ) (ibs : List Float) (c : Changed) (g : Stand w h b o z glyphs before rs is ibs c) (part : List Float) (the_part : part ≡ take (4 * c.commands) (drop (4 * c.first) ibs)) where
+module _ (screen : Screen) (o : Outcome) (z : Space) (glyphs : List ℕ) (before rs : List Float) (is : List ℕ) (ibs : List Float) (c : Changed) (g : Stand screen o z glyphs before rs is ibs c) (part : List Float) (the_part : part ≡ take (4 * c.commands) (drop (4 * c.first) ibs)) where
   behind : 4 * c.commands ≤ length (drop (4 * c.first) ibs)
   behind = omega (arith, length-drop (4 * c.first) ibs, g.held)
 
@@ -175,7 +174,7 @@ module _ (w h b : ℕ) (o : Outcome) (z : Space) (glyphs : List ℕ) (before rs 
   part_bounds = ap (λ (l : List Float). boxes_to l (length l / 4)) the_part ∙ part_boxes (drop (4 * c.first) ibs) c.commands behind ∙ g.boxes
 
   module _ (R G W : ℕ) where
-    pub stand_ready : Sizes w h b → (work gs ws : List ℕ) → Roomy before work gs ws R G W → Ready w h b rs (length part / 4) work is gs ws (rooms R G W)
+    pub stand_ready : fits screen ≡ true → (work gs ws : List ℕ) → Roomy before work gs ws R G W → Ready screen rs (length part / 4) work is gs ws (rooms R G W)
     stand_ready S work gs ws m = record {
       sizes = S;
       few = omega (arith, many, g.few);
@@ -186,28 +185,25 @@ module _ (w h b : ℕ) (o : Outcome) (z : Space) (glyphs : List ℕ) (before rs 
       word_room = m.word_room;
     }
 
-    still_fit : items_fit (lent_for z glyphs R G W) g.items ≡ true
+    still_fit : items_fit (scratch_for z glyphs R G W) g.items ≡ true
     unfolding items_fit
     still_fit = g.fit
 
-    pub stand_meets : 4 * R ≤ length before → (p : Result Plan Refusal) (gs ws : List ℕ) → p ≡ judged (rooms R G W) (draft_in w h b rs c.n part 0 (length part / 4)) → StandsIf p (draft_in w h b rs c.n part 0 (length part / 4)) rs gs ws → Meets (lent_for z glyphs R G W) o p rs gs ws
+    pub stand_meets : 4 * R ≤ length before → (p : Result Plan Refusal) (gs ws : List ℕ) → p ≡ judged (rooms R G W) (draft_in screen rs c.n part 0 (length part / 4)) → StandsIf p (draft_in screen rs c.n part 0 (length part / 4)) rs gs ws → Meets (scratch_for z glyphs R G W) o p rs gs ws
     stand_meets m p gs ws e f =
-        rw g.is_draft (answered w h b g.rects g.commands before rs c.n part 0 (length part / 4) R G W g.listed m part_bounds (many ∙ g.count) (lent_for z glyphs R G W) g.items still_fit refl refl refl p gs ws e f)
+        rw g.is_draft (answered screen g.rects g.commands before rs c.n part 0 (length part / 4) R G W g.listed m part_bounds (many ∙ g.count) (scratch_for z glyphs R G W) g.items still_fit refl refl refl p gs ws e f)
 
 -- ---- the header
 -- sizes that the header admits
 abbrev HeaderFits : Result Screen Refusal → Type 0
-HeaderFits (Ok sizes) = Sizes sizes.width sizes.height sizes.band_height
+HeaderFits (Ok screen) = fits screen ≡ true
 HeaderFits (Err why) = Unit {0}
 
 header_fits : (s : List ℕ) → HeaderFits (header_of s)
 unfolding header_of
 header_fits s =
     pick_cases HeaderFits (ltb (length s) 12) _ _ (λ e. tt)
-    λ e. pick_cases HeaderFits (fits (sizes_at s)) _ _
-    (λ f. let a = sizes_of (sizes_at s) f in
-    record { some_width = a.some_width; width_most = a.width_most; some_height = a.some_height; height_most = a.height_most; some_band = a.some_band; band_most = a.band_most })
-    (λ f. tt)
+    λ e. pick_cases HeaderFits (fits (sizes_at s)) _ _ (λ f. f) (λ f. tt)
 
 -- what is refused leaves nothing to stand
 pub none_stands : (why : Refusal) (o : Outcome) (rs : List Float) (gs ws : List ℕ) → StandsFor (Err why) o rs gs ws
@@ -215,14 +211,14 @@ none_stands why (turned r) rs gs ws = tt
 none_stands why (drafted i d) rs gs ws = λ e. absurd (false≢true e)
 
 module _ (s : List ℕ) (r : Result Screen Refusal) (a : r ≡ header_of s) where
-  pub header_sizes : (sizes : Screen) → r ≡ Ok sizes → Sizes sizes.width sizes.height sizes.band_height
-  header_sizes sizes q = subst HeaderFits (sym a ∙ q) (header_fits s)
+  pub header_sizes : (screen : Screen) → r ≡ Ok screen → fits screen ≡ true
+  header_sizes screen q = subst HeaderFits (sym a ∙ q) (header_fits s)
 
   -- what the strips come to is what the bytes come to
-  pub header_strips : (sizes : Screen) → r ≡ Ok sizes → (entry : Entry) → on_strips entry sizes.width sizes.height sizes.band_height s ≡ outcome entry s
+  pub header_strips : (screen : Screen) → r ≡ Ok screen → (entry : Entry) → on_strips entry screen s ≡ outcome entry s
   unfolding first_outcome next_outcome
-  header_strips sizes q First = rw (sym (sym q ∙ a)) refl
-  header_strips sizes q Next = rw (sym (sym q ∙ a)) refl
+  header_strips screen q First = rw (sym (sym q ∙ a)) refl
+  header_strips screen q Next = rw (sym (sym q ∙ a)) refl
 
   pub header_none : (z : Lent) (why : Refusal) → r ≡ Err why → (entry : Entry) → Err why ≡ answer_of z (outcome entry s)
   unfolding first_outcome next_outcome

@@ -21,27 +21,28 @@ use Rattle.plans.specs.Answers.{items_fit, draft_fits, accepted, answer_of}
 use Rattle.drafting.specs.Drafted.{draft_in, rooms, judged, StandsIf}
 use Rattle.drafting.proofs.Words.{rects_length, rects_back}
 use Rattle.rect_words.specs.Words.{boxes_to}
+use Rattle.screen.specs.declared.Screen.{Screen}
 
 -- ---- the draft in scratch is that of the lists
-module _ (w h b : ℕ) (l : List Rect) (cs : List Command) (old rs : List Float) (n : ℕ) (ibs : List Float) (first count R G W : ℕ) (listed : Listed old l rs n) (long : 4 * R ≤ length old) (boxes : boxes_to (drop (4 * first) ibs) count ≡ map bounds cs) (many : count ≡ length cs) where
-  same_draft : n ≤ R → draft_in w h b rs n ibs first count ≡ draft w h b l cs
+module _ (screen : Screen) (l : List Rect) (cs : List Command) (old rs : List Float) (n : ℕ) (ibs : List Float) (first count R G W : ℕ) (listed : Listed old l rs n) (long : 4 * R ≤ length old) (boxes : boxes_to (drop (4 * first) ibs) count ≡ map bounds cs) (many : count ≡ length cs) where
+  same_draft : n ≤ R → draft_in screen rs n ibs first count ≡ draft screen l cs
   same_draft k =
       let front = listed.words (omega arith) in
       let m = listed.count in
-      let r : boxes_to rs n ≡ l = ap (boxes_to rs) m ∙ rects_back l rs (screen_rect w h) (ap (λ (j : ℕ). take (4 * j) rs) (sym m) ∙ front) in
-      λ i. record { rects = r i; regions = schedule w h b (r i); words = index_words b (row_count h b) (boxes i); emitted = many i }
+      let r : boxes_to rs n ≡ l = ap (boxes_to rs) m ∙ rects_back l rs (screen_rect screen) (ap (λ (j : ℕ). take (4 * j) rs) (sym m) ∙ front) in
+      λ i. record { rects = r i; regions = schedule screen (r i); words = index_words screen.band_height (row_count screen.height screen.band_height) (boxes i); emitted = many i }
 
-  module _ (z : Lent) (i : Items) (fit : items_fit z i ≡ true) (same-rects : z.rects ≡ R) (same-regions : z.regions ≡ G) (same-words : z.words ≡ W) (p : Result Plan Refusal) (gs ws : List ℕ) (e : p ≡ judged (rooms R G W) (draft_in w h b rs n ibs first count)) (f : StandsIf p (draft_in w h b rs n ibs first count) rs gs ws) where
+  module _ (z : Lent) (i : Items) (fit : items_fit z i ≡ true) (same-rects : z.rects ≡ R) (same-regions : z.regions ≡ G) (same-words : z.words ≡ W) (p : Result Plan Refusal) (gs ws : List ℕ) (e : p ≡ judged (rooms R G W) (draft_in screen rs n ibs first count)) (f : StandsIf p (draft_in screen rs n ibs first count) rs gs ws) where
     abbrev Answered : Type 0
-    Answered = (p ≡ answer_of z (drafted i (draft w h b l cs))) × StandsIf p (draft w h b l cs) rs gs ws
+    Answered = (p ≡ answer_of z (drafted i (draft screen l cs))) × StandsIf p (draft screen l cs) rs gs ws
 
-    fits_small : n ≤ R → (p ≡ answer_of z (drafted i (draft w h b l cs))) × StandsIf p (draft w h b l cs) rs gs ws
+    fits_small : n ≤ R → (p ≡ answer_of z (drafted i (draft screen l cs))) × StandsIf p (draft screen l cs) rs gs ws
     unfolding draft_fits
     fits_small k =
         let d = same_draft k in
         (e ∙ ap (judged (rooms R G W)) d ∙ rw (fit, same-rects, same-regions, same-words), subst (λ (x : Draft). StandsIf p x rs gs ws) d f)
 
-    too_many : R < n → (p ≡ answer_of z (drafted i (draft w h b l cs))) × StandsIf p (draft w h b l cs) rs gs ws
+    too_many : R < n → (p ≡ answer_of z (drafted i (draft screen l cs))) × StandsIf p (draft screen l cs) rs gs ws
     unfolding draft_fits
     too_many k =
         let u : leb (length (boxes_to rs n)) R ≡ false = lt-leb (length (boxes_to rs n)) R (omega (arith, rects_length rs n)) in
@@ -49,7 +50,7 @@ module _ (w h b : ℕ) (l : List Rect) (cs : List Command) (old rs : List Float)
         let c : p ≡ refused NoRoom 0 = e ∙ rw u in
         (c ∙ rw (fit, same-rects, v), λ q. absurd (false≢true (sym (ap accepted c) ∙ q)))
 
-    pub answered : (p ≡ answer_of z (drafted i (draft w h b l cs))) × StandsIf p (draft w h b l cs) rs gs ws
+    pub answered : (p ≡ answer_of z (drafted i (draft screen l cs))) × StandsIf p (draft screen l cs) rs gs ws
     answered = by_le n R fits_small too_many
 
 -- ---- items that do not fit

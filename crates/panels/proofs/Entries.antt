@@ -20,13 +20,12 @@ use Rattle.little_endian.specs.Words.{u32_at}
 use Rattle.little_endian.proofs.Alike.{u32_same}
 use Rattle.rows.specs.Rows.{row_count}
 use Rattle.index_words.specs.Index.{index_words}
-use Rattle.scheduler.specs.Schedule.{Sizes, schedule}
+use Rattle.scheduler.specs.Schedule.{schedule}
 use Rattle.changes.specs.Changes.{diff_dirty}
 use Rattle.strip.specs.declared.Cursor.{Cursor}
 use Rattle.strip.specs.Reading.{read_strip, commands_of}
-use Rattle.screen.specs.Sizes.{size_fits}
-use Rattle.screen.proofs.Laws.{size_limits}
-use Rattle.frame.specs.Frame.{header_of, ended, with_old, then_new, then_end, first_of, both_of}
+use Rattle.screen.specs.Sizes.{fits}
+use Rattle.frame.specs.Frame.{sizes_at, header_of, ended, with_old, then_new, then_end, first_of, both_of}
 use Rattle.frame.proofs.Checks.{both_next}
 use Rattle.plans.specs.declared.Plan.{Plan}
 use Rattle.plans.specs.Drafts.{Outcome, turned, drafted, on_first, on_both, on_header, first_outcome, next_outcome}
@@ -37,23 +36,9 @@ use Rattle.panels.proofs.Plans.{boxes_since, GoodLast, Call, Plans}
 use Rattle.panels.proofs.Panels.{plans_agree}
 use Rattle.panels.proofs.Strips.{OneStrip, strip_sound, ends_there, as_alone, one_strip, old_read, old_list}
 
--- ---- the sizes
-sizes_fit : (w h b : ℕ) → size_fits w ≡ true → size_fits h ≡ true → size_fits b ≡ true → Sizes w h b
-sizes_fit w h b e f g =
-    let x = size_limits w e in
-    let y = size_limits h f in
-    let z = size_limits b g in
-    record { some_width = x.0; width_most = x.1; some_height = y.0; height_most = y.1; some_band = z.0; band_most = z.1 }
-
 module _ (header : List ℕ) (twelve : length header ≡ 12) where
-  abbrev w : ℕ
-  w = u32_at header 0
-
-  abbrev h : ℕ
-  h = u32_at header 4
-
-  abbrev b : ℕ
-  b = u32_at header 8
+  abbrev screen : Screen
+  screen = sizes_at header
 
   abbrev commands : List ℕ → List Command
   commands s = commands_of (header ++ s) 12
@@ -66,24 +51,18 @@ module _ (header : List ℕ) (twelve : length header ≡ 12) where
       front i j e h = let f : j ≡ i = omega arith in rw f (sym (get_or-append header s 0 i (omega (arith, twelve))))
 
   -- it is turned away, or its sizes fit
-  pub by_header : (P : Outcome → Type 0) (s : List ℕ) (k : ℕ → ℕ → ℕ → Outcome) → ((why : Refusal) → P (turned why)) → (Sizes w h b → P (k w h b)) → P (on_header (header_of (header ++ s)) k)
+  pub by_header : (P : Outcome → Type 0) (s : List ℕ) (k : Screen → Outcome) → ((why : Refusal) → P (turned why)) → (fits screen ≡ true → P (k screen)) → P (on_header (header_of (header ++ s)) k)
   unfolding header_of
   by_header P s k away f =
       rw (le-ltb (length (header ++ s)) 12 (omega (arith, twelve, length-append header s)), word_same s 0 (omega arith), word_same s 4 (omega arith), word_same s 8 (omega arith))
-      (go (size_fits w) (size_fits h) (size_fits b) refl refl refl)
-    where
-      go : (x y z : Bool) → size_fits w ≡ x → size_fits h ≡ y → size_fits b ≡ z → P (on_header (pick (x && (y && z)) (Ok (record { width = w; height = h; band_height = b })) (refused Size 0)) k)
-      go false y z d e g = away (refusal Size 0)
-      go true false z d e g = away (refusal Size 0)
-      go true true false d e g = away (refusal Size 0)
-      go true true true d e g = f (sizes_fit w h b d e g)
+      (pick_cases (λ x. P (on_header x k)) (fits screen) (Ok screen) (refused Size 0) f (λ e. away (refusal Size 0)))
 
   -- ---- what a call comes to
   record Drafted (last : Option (List ℕ)) (s : List ℕ) (x : Outcome) : Type 0 where
-    sizes : Sizes w h b
+    sizes : fits screen ≡ true
     alone : OneStrip header s
-    regions : drafted_regions x ≡ schedule w h b (boxes_since commands w h last s)
-    words : index_words_of x ≡ index_words b (row_count h b) (map bounds (commands s))
+    regions : drafted_regions x ≡ schedule screen (boxes_since commands screen last s)
+    words : index_words_of x ≡ index_words screen.band_height (row_count screen.height screen.band_height) (map bounds (commands s))
 
   abbrev WhereDrafted : Option (List ℕ) → List ℕ → Outcome → Type 0
   WhereDrafted last s (turned why) = Unit {0}
@@ -91,12 +70,12 @@ module _ (header : List ℕ) (twelve : length header ≡ 12) where
 
   first_drafted : (s : List ℕ) → WhereDrafted none s (first_outcome (header ++ s))
   unfolding first_outcome first_of ended
-  first_drafted s = by_header (WhereDrafted none s) s (λ w h b. on_first w h b (header ++ s) (first_of (header ++ s))) (λ n. tt) (λ z. go z (read_strip (header ++ s) 12) refl)
+  first_drafted s = by_header (WhereDrafted none s) s (λ screen. on_first screen (header ++ s) (first_of (header ++ s))) (λ n. tt) (λ z. go z (read_strip (header ++ s) 12) refl)
     where
-      go : Sizes w h b → (x : Result Cursor Refusal) → read_strip (header ++ s) 12 ≡ x → WhereDrafted none s (on_first w h b (header ++ s) (then_end (header ++ s) x))
+      go : fits screen ≡ true → (x : Result Cursor Refusal) → read_strip (header ++ s) 12 ≡ x → WhereDrafted none s (on_first screen (header ++ s) (then_end (header ++ s) x))
       go z (Err why) e = tt
       go z (Ok new) e =
-          pick_cases (λ x. WhereDrafted none s (on_first w h b (header ++ s) x)) (ltb new.at (length (header ++ s))) (refused TrailingByte new.at) (Ok new)
+          pick_cases (λ x. WhereDrafted none s (on_first screen (header ++ s) x)) (ltb new.at (length (header ++ s))) (refused TrailingByte new.at) (Ok new)
           (λ t. tt)
           (λ t. record { sizes = z; alone = (new, e, ends_there (header ++ s) 12 new e (ltb-false new.at (length (header ++ s)) t)); regions = refl; words = refl })
 
@@ -105,31 +84,31 @@ module _ (header : List ℕ) (twelve : length header ≡ 12) where
     input = (header ++ old) ++ s
 
     -- the new strip begins where the header and the old one end
-    new_drafted : Sizes w h b → (d : Cursor) → d.at ≡ length (header ++ old) → (x : Result Cursor Refusal) → read_strip input d.at ≡ x → WhereDrafted (some old) s (on_both w h b input (then_new input d x))
+    new_drafted : fits screen ≡ true → (d : Cursor) → d.at ≡ length (header ++ old) → (x : Result Cursor Refusal) → read_strip input d.at ≡ x → WhereDrafted (some old) s (on_both screen input (then_new input d x))
     unfolding ended
     new_drafted z d at (Err why) e = tt
     new_drafted z d at (Ok new) e =
-        pick_cases (λ (x : Result Cursor Refusal). WhereDrafted (some old) s (on_both w h b input (with_old d x))) (ltb new.at (length input)) (refused TrailingByte new.at) (Ok new)
+        pick_cases (λ (x : Result Cursor Refusal). WhereDrafted (some old) s (on_both screen input (with_old d x))) (ltb new.at (length input)) (refused TrailingByte new.at) (Ok new)
         (λ t. tt)
         (λ t. record {
           sizes = z;
           alone = one_strip header twelve (header ++ old) s new (subst (λ (n : ℕ). read_strip input n ≡ Ok new) at e) (ltb-false new.at (length input) t);
-          regions = λ i. schedule w h b (diff_dirty (old_list header twelve old s good i) (new_list i));
-          words = λ i. index_words b (row_count h b) (map bounds (new_list i));
+          regions = λ i. schedule screen (diff_dirty (old_list header twelve old s good i) (new_list i));
+          words = λ i. index_words screen.band_height (row_count screen.height screen.band_height) (map bounds (new_list i));
         })
       where
         new_list : commands_of input d.at ≡ commands s
         new_list = ap (commands_of input) at ∙ as_alone header twelve (header ++ old) s
 
-    both_drafted : Sizes w h b → WhereDrafted (some old) s (on_both w h b input (both_of input))
+    both_drafted : fits screen ≡ true → WhereDrafted (some old) s (on_both screen input (both_of input))
     both_drafted z =
         let d = old_read header twelve old s good in
-        subst (λ x. WhereDrafted (some old) s (on_both w h b input x)) (both_next input d.0 d.1) (new_drafted z d.0 d.2 (read_strip input d.0.at) refl)
+        subst (λ x. WhereDrafted (some old) s (on_both screen input x)) (both_next input d.0 d.1) (new_drafted z d.0 d.2 (read_strip input d.0.at) refl)
 
     next_drafted : WhereDrafted (some old) s (next_outcome (header ++ (old ++ s)))
     unfolding next_outcome
-    next_drafted = by_header (WhereDrafted (some old) s) (old ++ s) (λ w h b. on_both w h b (header ++ (old ++ s)) (both_of (header ++ (old ++ s)))) (λ n. tt)
-        (λ z. subst (λ (t : List ℕ). WhereDrafted (some old) s (on_both w h b t (both_of t))) (append_assoc header old s) (both_drafted z))
+    next_drafted = by_header (WhereDrafted (some old) s) (old ++ s) (λ screen. on_both screen (header ++ (old ++ s)) (both_of (header ++ (old ++ s)))) (λ n. tt)
+        (λ z. subst (λ (t : List ℕ). WhereDrafted (some old) s (on_both screen t (both_of t))) (append_assoc header old s) (both_drafted z))
 
   call_drafted : (last : Option (List ℕ)) (s : List ℕ) → GoodLast (OneStrip header) last → WhereDrafted last s (call_of header last s)
   call_drafted none s g = first_drafted s
@@ -147,7 +126,7 @@ module _ (header : List ℕ) (twelve : length header ≡ 12) where
   words_behind (Ok plan) new old e = refl
   words_behind (Err why) new old e = absurd (true≢false (sym e))
 
-  entries_plan : Plans w h b (entries header) (OneStrip header)
+  entries_plan : Plans screen (entries header) (OneStrip header)
   entries_plan = record {
     sizes = λ last s z c. (call_made last s z c).sizes;
     one_strip = λ last s z c. (call_made last s z c).alone;
@@ -161,4 +140,4 @@ module _ (header : List ℕ) (twelve : length header ≡ 12) where
   }
 
 pub panels_agree : EntriesAgree
-panels_agree header twelve = plans_agree (u32_at header 0) (u32_at header 4) (u32_at header 8) (entries header) (OneStrip header) (entries_plan header twelve)
+panels_agree header twelve = plans_agree (sizes_at header) (entries header) (OneStrip header) (entries_plan header twelve)

@@ -8,7 +8,7 @@ use Rattle.lists.specs.Members.{All}
 use Rattle.commands.specs.Bounds.{Command, bounds}
 use Rattle.rows.specs.Rows.{row_count}
 use Rattle.index_words.specs.Index.{index_words}
-use Rattle.scheduler.specs.Schedule.{Sizes, schedule}
+use Rattle.scheduler.specs.Schedule.{schedule}
 use Rattle.painting.proofs.Alike.{Sound}
 use Rattle.panels.specs.Panels.{Planner, PanelsAgree}
 use Rattle.panels.proofs.Plans.{boxes_since, Plans}
@@ -17,19 +17,21 @@ use Rattle.panels.proofs.Panels.{plans_agree}
 record Listed : Type 0 where
   commands : List Command
   sound : All Sound commands
+use Rattle.screen.specs.declared.Screen.{Screen}
+use Rattle.screen.specs.Sizes.{fits}
 
-module _ (w h b : ℕ) where
+module _ (screen : Screen) where
   listing : Planner
   listing = record {
     Strip = Listed;
     Space = List ℕ;
     accepted = λ last s z. true;
     commands = λ s. s.commands;
-    regions = λ last s z. schedule w h b (boxes_since (λ (t : Listed). t.commands) w h last s);
-    words = λ last s z. index_words b (row_count h b) (map bounds s.commands) ++ z;
+    regions = λ last s z. schedule screen (boxes_since (λ (t : Listed). t.commands) screen last s);
+    words = λ last s z. index_words screen.band_height (row_count screen.height screen.band_height) (map bounds s.commands) ++ z;
   }
 
-  listing_plans : Sizes w h b → Plans w h b listing (λ s. Unit {0})
+  listing_plans : fits screen ≡ true → Plans screen listing (λ s. Unit {0})
   unfolding listing
   listing_plans z = record {
     sizes = λ last s x c. z;
@@ -39,5 +41,5 @@ module _ (w h b : ℕ) where
     words = λ last s x c. (x, refl);
   }
 
-  listing_agrees : Sizes w h b → PanelsAgree w h b listing
-  listing_agrees z = plans_agree w h b listing (λ s. Unit {0}) (listing_plans z)
+  listing_agrees : fits screen ≡ true → PanelsAgree screen listing
+  listing_agrees z = plans_agree screen listing (λ s. Unit {0}) (listing_plans z)

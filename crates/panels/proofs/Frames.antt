@@ -12,6 +12,7 @@ use Rattle.panels.specs.Panels.{Planner, Frame, is_accepted, Used, now, later, O
 
 pub used_none : (P : Planner) (last : Option P.Strip) (Q : Command → Type 0) (c : Command) → Used P last [] c → Q c
 used_none P last Q c u = elim u [ ]
+use Rattle.screen.specs.declared.Screen.{Screen}
 
 module _ (P : Planner) (last : Option P.Strip) (f : Frame P) (fs : List (Frame P)) where
   -- ---- what all commands of accepted frames have
@@ -31,11 +32,11 @@ module _ (P : Planner) (last : Option P.Strip) (f : Frame P) (fs : List (Frame P
   orders_refused e k = (λ t. absurd (true≢false (sym t ∙ e)), rw e k)
 
 -- ---- the panels
-module _ (P : Planner) (w h b : ℕ) {C : Type 0} (background : C) (paint : Command → Pixel w h → C → C) (absent : Command) (s : State P w h b background paint absent) (f : Frame P) where
-  pub step_accepted : is_accepted P s.last f ≡ true → step P w h b background paint absent s f ≡ record { last = some f.strip; panel_a = paint_whole P w h b background paint absent (P.commands f.strip); panel_b = repaint P w h b background paint absent s.last f s.panel_b }
+module _ (P : Planner) (screen : Screen) {C : Type 0} (background : C) (paint : Command → Pixel screen.width screen.height → C → C) (absent : Command) (s : State P screen background paint absent) (f : Frame P) where
+  pub step_accepted : is_accepted P s.last f ≡ true → step P screen background paint absent s f ≡ record { last = some f.strip; panel_a = paint_whole P screen background paint absent (P.commands f.strip); panel_b = repaint P screen background paint absent s.last f s.panel_b }
   unfolding step
   step_accepted e = rw e
 
-  pub step_refused : is_accepted P s.last f ≡ false → step P w h b background paint absent s f ≡ s
+  pub step_refused : is_accepted P s.last f ≡ false → step P screen background paint absent s f ≡ s
   unfolding step
   step_refused e = rw e

@@ -22,7 +22,7 @@ use Rattle.rows.specs.Rows.{row_count}
 use Rattle.index_words.specs.Index.{index_words}
 use Rattle.index_words.specs.Painting.{paint_all, paint_at}
 use Rattle.candidates.specs.Table.{candidates, refusal}
-use Rattle.scheduler.specs.Schedule.{Sizes, schedule}
+use Rattle.scheduler.specs.Schedule.{schedule}
 use Rattle.schedule_laws.specs.Placed.{Covers, Placed, Clear, Schedulable}
 use Rattle.schedule_laws.proofs.AllBands.{row_band, no_share}
 use Rattle.schedule_laws.proofs.Boxes.{has_covers, boxes_schedulable}
@@ -42,28 +42,30 @@ covers_test : (r : DeviceRegion) (p q : ℕ) → Covers p q r → has (Some r) p
 covers_test r p q c = and_from (leb r.x p && ltb p (r.x + r.width)) (leb r.y q && ltb q (r.y + r.height))
     (and_from (leb r.x p) (ltb p (r.x + r.width)) (le-leb r.x p c.from_left) (lt-ltb p (r.x + r.width) c.to_right))
     (and_from (leb r.y q) (ltb q (r.y + r.height)) (le-leb r.y q c.from_top) (lt-ltb q (r.y + r.height) c.to_bottom))
+use Rattle.screen.specs.declared.Screen.{Screen}
+use Rattle.screen.specs.Sizes.{fits}
 
-module _ (w h b : ℕ) (P : Planner) (good : P.Strip → Type 0) (L : Plans w h b P good) {C : Type 0} (background : C) {M : Command → Type 0} {paint : Command → Pixel w h → C → C} {mark : Key → Pixel w h → C → C} (absent : Command) (R : Rules w h C M paint mark) where
-  abbrev shown : List Command → Pixel w h → C
+module _ (screen : Screen) (P : Planner) (good : P.Strip → Type 0) (L : Plans screen P good) {C : Type 0} (background : C) {M : Command → Type 0} {paint : Command → Pixel screen.width screen.height → C → C} {mark : Key → Pixel screen.width screen.height → C → C} (absent : Command) (R : Rules screen.width screen.height C M paint mark) where
+  abbrev shown : List Command → Pixel screen.width screen.height → C
   shown cs px = paint_all (λ c. paint c px) cs background
 
   -- what a region's candidates make of a pixel
-  abbrev region_shows : List Command → List ℕ → Pixel w h → DeviceRegion → C
-  region_shows cs words px r = paint_at (λ c. paint c px) (λ i. get_or cs i absent) (candidates w h b r.y words) background
+  abbrev region_shows : List Command → List ℕ → Pixel screen.width screen.height → DeviceRegion → C
+  region_shows cs words px r = paint_at (λ c. paint c px) (λ i. get_or cs i absent) (candidates screen r.y words) background
 
   -- L4: F is what each region makes of the pixel that has it. Then the pixel is F, or no region has it and it is as before.
-  any_order : (cs : List Command) (words : List ℕ) (px : Pixel w h) (F : C) (rs : List DeviceRegion) (panel : Pixel w h → C)
+  any_order : (cs : List Command) (words : List ℕ) (px : Pixel screen.width screen.height) (F : C) (rs : List DeviceRegion) (panel : Pixel screen.width screen.height → C)
       → All (λ r. has (Some r) px.p px.q ≡ true → region_shows cs words px r ≡ F) rs
-      → (paint_regions P w h b background paint absent cs words rs panel px ≡ F) ⊎ ((paint_regions P w h b background paint absent cs words rs panel px ≡ panel px) × All (λ r. has (Some r) px.p px.q ≡ false) rs)
+      → (paint_regions P screen background paint absent cs words rs panel px ≡ F) ⊎ ((paint_regions P screen background paint absent cs words rs panel px ≡ panel px) × All (λ r. has (Some r) px.p px.q ≡ false) rs)
   unfolding paint_region paint_all All
   any_order cs words px F [] panel g = inr (refl, tt)
   any_order cs words px F (r ∷ rs) panel g = ⊎_elim
       (λ e. inl e)
       (λ e. go (has (Some r) px.p px.q) refl e.0 e.1)
-      (any_order cs words px F rs (paint_region P w h b background paint absent cs words r panel) g.1)
+      (any_order cs words px F rs (paint_region P screen background paint absent cs words r panel) g.1)
     where
       after_all : C
-      after_all = paint_regions P w h b background paint absent cs words rs (paint_region P w h b background paint absent cs words r panel) px
+      after_all = paint_regions P screen background paint absent cs words rs (paint_region P screen background paint absent cs words r panel) px
 
       go : (t : Bool) → has (Some r) px.p px.q ≡ t → after_all ≡ pick t (region_shows cs words px r) (panel px) → All (λ s. has (Some s) px.p px.q ≡ false) rs
           → (after_all ≡ F) ⊎ ((after_all ≡ panel px) × ((has (Some r) px.p px.q ≡ false) × All (λ s. has (Some s) px.p px.q ≡ false) rs))
@@ -81,41 +83,41 @@ module _ (w h b : ℕ) (P : Planner) (good : P.Strip → Type 0) (L : Plans w h 
     abbrev words : List ℕ
     words = P.words last f.strip f.space
 
-    sizes : Sizes w h b
+    sizes : fits screen ≡ true
     sizes = L.sizes last f.strip f.space call
 
-    index : (rest : List ℕ) × (words ≡ index_words b (row_count h b) (map bounds ns) ++ rest)
+    index : (rest : List ℕ) × (words ≡ index_words screen.band_height (row_count screen.height screen.band_height) (map bounds ns) ++ rest)
     index = L.words last f.strip f.space call
 
-    regions_placed : Schedulable w h b rs
-    regions_placed = subst (Schedulable w h b) (sym (L.regions last f.strip f.space call)) (boxes_schedulable sizes (boxes_since P.commands w h last f.strip))
+    regions_placed : Schedulable screen rs
+    regions_placed = subst (Schedulable screen) (sym (L.regions last f.strip f.space call)) (boxes_schedulable sizes (boxes_since P.commands screen last f.strip))
 
     -- S2, S3, I3
-    planned : Planned P w h b background paint absent last f
+    planned : Planned P screen background paint absent last f
     planned =
         let S = regions_placed in
         record {
-          apart = pairs_with (Placed w h b) (Clear b) Apart (λ r s x y c p q. no_share w h b p q r s x y c) rs S.placed S.clear;
-          in_band = all_map (Placed w h b) (InBand b) (λ r x. sym (row_band w h b (r.y + r.height - 1) r x (omega (arith, x.on.some_height)) (omega (arith, x.on.some_height)))) rs S.placed;
-          answered = all_map (Placed w h b) (λ r. refusal w h b r.y words ≡ 0) (candidates_answer sizes (map bounds ns) words index.0 index.1) rs S.placed;
+          apart = pairs_with (Placed screen) (Clear screen.band_height) Apart (λ r s x y c p q. no_share screen p q r s x y c) rs S.placed S.clear;
+          in_band = all_map (Placed screen) (InBand screen.band_height) (λ r x. sym (row_band screen (r.y + r.height - 1) r x (omega (arith, x.on.some_height)) (omega (arith, x.on.some_height)))) rs S.placed;
+          answered = all_map (Placed screen) (λ r. refusal screen r.y words ≡ 0) (candidates_answer sizes (map bounds ns) words index.0 index.1) rs S.placed;
         }
 
     -- L3 for each region that panel B paints
-    each_shows : (px : Pixel w h) → All M ns → (order : List DeviceRegion) → All (λ r. In r rs) order → All (λ r. has (Some r) px.p px.q ≡ true → region_shows ns words px r ≡ shown ns px) order
+    each_shows : (px : Pixel screen.width screen.height) → All M ns → (order : List DeviceRegion) → All (λ r. In r rs) order → All (λ r. has (Some r) px.p px.q ≡ true → region_shows ns words px r ≡ shown ns px) order
     each_shows px m order i =
         all_map (λ r. In r rs) (λ r. has (Some r) px.p px.q ≡ true → region_shows ns words px r ≡ shown ns px)
-        (λ r j e. candidates_paint sizes R px ns m (L.sound last f.strip f.space call) words index.0 index.1 r (in_all (Placed w h b) r rs j regions_placed.placed) (test_covers r px.p px.q e) absent background)
+        (λ r j e. candidates_paint sizes R px ns m (L.sound last f.strip f.space call) words index.0 index.1 r (in_all (Placed screen) r rs j regions_placed.placed) (test_covers r px.p px.q e) absent background)
         order i
 
   -- ---- the trace
   -- panel A shows the last accepted strip, whose commands the rules speak of
-  abbrev Shown : Option P.Strip → (Pixel w h → C) → Type 0
+  abbrev Shown : Option P.Strip → (Pixel screen.width screen.height → C) → Type 0
   Shown none panel = Unit {0}
-  Shown (some old) panel = ((px : Pixel w h) → panel px ≡ shown (P.commands old) px) × All M (P.commands old) × All Sound (P.commands old)
+  Shown (some old) panel = ((px : Pixel screen.width screen.height) → panel px ≡ shown (P.commands old) px) × All M (P.commands old) × All Sound (P.commands old)
 
   -- panel B at an accepted frame
-  repainted : (last : Option P.Strip) (f : Frame P) (panel_a panel_b : Pixel w h → C) → Call P good last f.strip f.space → OrderedBy P last f → All M (P.commands f.strip) → ((px : Pixel w h) → panel_a px ≡ panel_b px) → Shown last panel_a
-      → (px : Pixel w h) → shown (P.commands f.strip) px ≡ repaint P w h b background paint absent last f panel_b px
+  repainted : (last : Option P.Strip) (f : Frame P) (panel_a panel_b : Pixel screen.width screen.height → C) → Call P good last f.strip f.space → OrderedBy P last f → All M (P.commands f.strip) → ((px : Pixel screen.width screen.height) → panel_a px ≡ panel_b px) → Shown last panel_a
+      → (px : Pixel screen.width screen.height) → shown (P.commands f.strip) px ≡ repaint P screen background paint absent last f panel_b px
   unfolding paint_whole
   repainted none f panel_a panel_b call ord m same sh px = refl
   repainted (some old) f panel_a panel_b call ord m same sh px = sym (⊎_elim
@@ -125,32 +127,32 @@ module _ (w h b : ℕ) (P : Planner) (good : P.Strip → Type 0) (L : Plans w h 
       (each_shows (some old) f call px m f.order ord.only)))
     where
       -- no region in the order has the pixel, so no region has it
-      uncovered : All (λ r. has (Some r) px.p px.q ≡ false) f.order → Any (Covers px.p px.q) (schedule w h b (diff_dirty (P.commands old) (P.commands f.strip))) → ⊥
+      uncovered : All (λ r. has (Some r) px.p px.q ≡ false) f.order → Any (Covers px.p px.q) (schedule screen (diff_dirty (P.commands old) (P.commands f.strip))) → ⊥
       uncovered n a =
           let z = any_find (Covers px.p px.q) (P.regions (some old) f.strip f.space) (subst (Any (Covers px.p px.q)) (sym (L.regions (some old) f.strip f.space call)) a) in
           let i = in_all (λ r. In r f.order) z.0 (P.regions (some old) f.strip f.space) z.1 ord.each in
           not_both (has (Some z.0) px.p px.q) (in_all (λ r. has (Some r) px.p px.q ≡ false) z.0 f.order i n) (holds _ (covers_test z.0 px.p px.q z.2))
 
-  panels_from : (s : State P w h b background paint absent) (fs : List (Frame P)) → SamePanels P w h b background paint absent s → GoodLast good s.last → Shown s.last s.panel_a → ((c : Command) → Used P s.last fs c → M c) → Orders P s.last fs → Agree P w h b background paint absent s fs
+  panels_from : (s : State P screen background paint absent) (fs : List (Frame P)) → SamePanels P screen background paint absent s → GoodLast good s.last → Shown s.last s.panel_a → ((c : Command) → Used P s.last fs c → M c) → Orders P s.last fs → Agree P screen background paint absent s fs
   unfolding step
   panels_from s [] same gl sh used ord = same
   panels_from s (f ∷ fs) same gl sh used ord =
       (same, λ acc. planned s.last f (record { good_last = gl; no_number = acc }), go (is_accepted P s.last f) refl (λ c u. used c (later u)) ord.1 (λ t x g y u o. panels_from t fs x g y u o))
     where
-      next : State P w h b background paint absent
-      next = record { last = some f.strip; panel_a = paint_whole P w h b background paint absent (P.commands f.strip); panel_b = repaint P w h b background paint absent s.last f s.panel_b }
+      next : State P screen background paint absent
+      next = record { last = some f.strip; panel_a = paint_whole P screen background paint absent (P.commands f.strip); panel_b = repaint P screen background paint absent s.last f s.panel_b }
 
       go : (t : Bool) → is_accepted P s.last f ≡ t → ((c : Command) → Used P (pick t (some f.strip) s.last) fs c → M c) → Orders P (pick t (some f.strip) s.last) fs
-          → ((t : State P w h b background paint absent) → SamePanels P w h b background paint absent t → GoodLast good t.last → Shown t.last t.panel_a → ((c : Command) → Used P t.last fs c → M c) → Orders P t.last fs → Agree P w h b background paint absent t fs)
-          → Agree P w h b background paint absent (pick t next s) fs
+          → ((t : State P screen background paint absent) → SamePanels P screen background paint absent t → GoodLast good t.last → Shown t.last t.panel_a → ((c : Command) → Used P t.last fs c → M c) → Orders P t.last fs → Agree P screen background paint absent t fs)
+          → Agree P screen background paint absent (pick t next s) fs
       go false e u o rec = rec s same gl sh u o
       go true e u o rec =
           let m : All M (P.commands f.strip) = all_of M (P.commands f.strip) (λ c i. used c (now e i)) in
           let call : Call P good s.last f.strip f.space = record { good_last = gl; no_number = e } in
-          let shows : (px : Pixel w h) → paint_whole P w h b background paint absent (P.commands f.strip) px ≡ shown (P.commands f.strip) px = λ px. unfold paint_whole in refl in
+          let shows : (px : Pixel screen.width screen.height) → paint_whole P screen background paint absent (P.commands f.strip) px ≡ shown (P.commands f.strip) px = λ px. unfold paint_whole in refl in
           rec next (λ px. shows px ∙ repainted s.last f s.panel_a s.panel_b call (ord.0 e) m same sh px) (L.one_strip s.last f.strip f.space call) (shows, m, L.sound s.last f.strip f.space call) u o
 
 -- Demand 3. The glyph rule is not used: a glyph is painted by its key, which has no box, and rule (iv) is asked of every glyph that occurs.
-pub plans_agree : (w h b : ℕ) (P : Planner) (good : P.Strip → Type 0) → Plans w h b P good → PanelsAgree w h b P
-plans_agree w h b P good L frames C background paint mark absent R glyphs ord =
-    panels_from w h b P good L background absent R (start P w h b background paint absent) frames (λ px. refl) tt tt (λ c u. u) ord
+pub plans_agree : (screen : Screen) (P : Planner) (good : P.Strip → Type 0) → Plans screen P good → PanelsAgree screen P
+plans_agree screen P good L frames C background paint mark absent R glyphs ord =
+    panels_from screen P good L background absent R (start P screen background paint absent) frames (λ px. refl) tt tt (λ c u. u) ord

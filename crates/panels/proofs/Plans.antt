@@ -5,20 +5,22 @@ use mathlib.Core.List.{List, [], ◌∷◌, ◌++◌, map}
 use mathlib.Core.Option.{Option, none, some}
 use Prim.Native.Nat.{ℕ}
 use Rattle.lists.specs.Members.{All}
-use Rattle.floats.specs.Whole.{whole}
 use Rattle.geometry.specs.declared.Rect.{Rect}
 use Rattle.commands.specs.Bounds.{Command, bounds}
 use Rattle.rows.specs.Rows.{row_count}
 use Rattle.index_words.specs.Index.{index_words}
-use Rattle.scheduler.specs.Schedule.{Sizes, schedule}
+use Rattle.scheduler.specs.Schedule.{schedule}
 use Rattle.changes.specs.Changes.{diff_dirty}
 use Rattle.painting.proofs.Alike.{Sound}
+use Rattle.plans.specs.Drafts.{screen_rect}
 use Rattle.panels.specs.Panels.{Planner}
+use Rattle.screen.specs.declared.Screen.{Screen}
+use Rattle.screen.specs.Sizes.{fits}
 
 -- what is scheduled: the whole screen at the first frame, then what changed since the last accepted strip
-abbrev pub boxes_since : {S : Type 0} → (S → List Command) → ℕ → ℕ → Option S → S → List Rect
-boxes_since commands w h none s = record { x0 = whole 0; y0 = whole 0; x1 = whole w; y1 = whole h } ∷ []
-boxes_since commands w h (some old) s = diff_dirty (commands old) (commands s)
+abbrev pub boxes_since : {S : Type 0} → (S → List Command) → Screen → Option S → S → List Rect
+boxes_since commands screen none s = screen_rect screen ∷ []
+boxes_since commands screen (some old) s = diff_dirty (commands old) (commands s)
 
 -- where there is a last accepted strip, it is good: it reads as one strip, alone and before another. Of other bytes nothing can be said, for they
 -- may be read with another end.
@@ -31,14 +33,14 @@ pub record Call (P : Planner) (good : P.Strip → Type 0) (last : Option P.Strip
   pub good_last : GoodLast good last
   pub no_number : P.accepted last s z ≡ true
 
-pub record Plans (w h b : ℕ) (P : Planner) (good : P.Strip → Type 0) : Type 0 where
+pub record Plans (screen : Screen) (P : Planner) (good : P.Strip → Type 0) : Type 0 where
   -- number 1's case does not hold
-  pub sizes : (last : Option P.Strip) (s : P.Strip) (z : P.Space) → Call P good last s z → Sizes w h b
+  pub sizes : (last : Option P.Strip) (s : P.Strip) (z : P.Space) → Call P good last s z → fits screen ≡ true
   -- P1: the strip is good in its turn
   pub one_strip : (last : Option P.Strip) (s : P.Strip) (z : P.Space) → Call P good last s z → good s
   -- P3: no edge of a box is a NaN
   pub sound : (last : Option P.Strip) (s : P.Strip) (z : P.Space) → Call P good last s z → All Sound (P.commands s)
   -- P2: the old list is that of the last accepted strip
-  pub regions : (last : Option P.Strip) (s : P.Strip) (z : P.Space) → Call P good last s z → P.regions last s z ≡ schedule w h b (boxes_since P.commands w h last s)
+  pub regions : (last : Option P.Strip) (s : P.Strip) (z : P.Space) → Call P good last s z → P.regions last s z ≡ schedule screen (boxes_since P.commands screen last s)
   -- the index of the new list, and whatever words were lent behind it
-  pub words : (last : Option P.Strip) (s : P.Strip) (z : P.Space) → Call P good last s z → (rest : List ℕ) × (P.words last s z ≡ index_words b (row_count h b) (map bounds (P.commands s)) ++ rest)
+  pub words : (last : Option P.Strip) (s : P.Strip) (z : P.Space) → Call P good last s z → (rest : List ℕ) × (P.words last s z ≡ index_words screen.band_height (row_count screen.height screen.band_height) (map bounds (P.commands s)) ++ rest)

@@ -10,7 +10,6 @@ use Rattle.std.specs.Prelude.{Result, Ok, Err}
 use Rattle.refusals.specs.declared.Refusal.{Refusal}
 use Rattle.lists.specs.Members.{All}
 use Rattle.lists.proofs.Members.{all_map}
-use Rattle.little_endian.specs.Words.{u32_at}
 use Rattle.geometry.specs.declared.Rect.{Rect}
 use Rattle.commands.specs.Bounds.{bounds}
 use Rattle.device.specs.declared.DeviceRegion.{DeviceRegion}
@@ -19,48 +18,44 @@ use Rattle.index_words.specs.Index.{row_list, index_words}
 use Rattle.changes.specs.Changes.{diff_dirty}
 use Rattle.candidates.specs.Table.{candidates, refusal}
 use Rattle.candidates.proofs.Plans.{plan_accepted, plan_row}
-use Rattle.scheduler.specs.Schedule.{Sizes, schedule}
+use Rattle.scheduler.specs.Schedule.{schedule}
 use Rattle.painting.proofs.Schedules.{width_size, height_size, band_size}
 use Rattle.schedule_laws.specs.Placed.{Placed}
 use Rattle.schedule_laws.proofs.Boxes.{boxes_schedulable}
 use Rattle.strip.specs.Reading.{commands_of}
 use Rattle.strip.specs.declared.Cursor.{Cursor}
 use Rattle.frame.specs.declared.Strips.{Strips}
-use Rattle.frame.specs.Frame.{first_of, both_of}
+use Rattle.frame.specs.Frame.{sizes_at, first_of, both_of}
 use Rattle.plans.specs.Drafts.{Outcome, turned, drafted, screen_rect, on_first, on_both, first_outcome, next_outcome}
 use Rattle.plans.specs.Space.{Lent, lent_of}
 use Rattle.plans.specs.Answers.{answer_of, accepted, index_words_of}
 use Rattle.panels.specs.Entries.{call_of, drafted_regions}
 use Rattle.panels.specs.Rows.{RowAlike, SameRows}
 use Rattle.panels.proofs.Entries.{by_header, words_behind}
+use Rattle.screen.specs.declared.Screen.{Screen}
+use Rattle.screen.specs.Sizes.{fits}
 
 module _ (header : List ℕ) (twelve : length header ≡ 12) where
-  abbrev w : ℕ
-  w = u32_at header 0
-
-  abbrev h : ℕ
-  h = u32_at header 4
-
-  abbrev b : ℕ
-  b = u32_at header 8
+  abbrev screen : Screen
+  screen = sizes_at header
 
   -- the regions are a schedule and the words an index, whatever the old bytes are
   record Drawn (x : Outcome) : Type 0 where
-    sizes : Sizes w h b
+    sizes : fits screen ≡ true
     rects : List Rect
     boxes : List Rect
-    regions_are : drafted_regions x ≡ schedule w h b rects
-    words_are : index_words_of x ≡ index_words b (row_count h b) boxes
+    regions_are : drafted_regions x ≡ schedule screen rects
+    words_are : index_words_of x ≡ index_words screen.band_height (row_count screen.height screen.band_height) boxes
 
   abbrev WhereDrawn : Outcome → Type 0
   WhereDrawn (turned why) = Unit {0}
   WhereDrawn (drafted i d) = Drawn (drafted i d)
 
-  first_drawn : Sizes w h b → (s : List ℕ) (x : Result Cursor Refusal) → WhereDrawn (on_first w h b s x)
-  first_drawn z s (Ok new) = record { sizes = z; rects = screen_rect w h ∷ []; boxes = map bounds (commands_of s 12); regions_are = refl; words_are = refl }
+  first_drawn : fits screen ≡ true → (s : List ℕ) (x : Result Cursor Refusal) → WhereDrawn (on_first screen s x)
+  first_drawn z s (Ok new) = record { sizes = z; rects = screen_rect screen ∷ []; boxes = map bounds (commands_of s 12); regions_are = refl; words_are = refl }
   first_drawn z s (Err why) = tt
 
-  both_drawn : Sizes w h b → (s : List ℕ) (x : Result Strips Refusal) → WhereDrawn (on_both w h b s x)
+  both_drawn : fits screen ≡ true → (s : List ℕ) (x : Result Strips Refusal) → WhereDrawn (on_both screen s x)
   both_drawn z s (Ok both) = record {
     sizes = z;
     rects = diff_dirty (commands_of s 12) (commands_of s both.old.at);
@@ -73,9 +68,9 @@ module _ (header : List ℕ) (twelve : length header ≡ 12) where
   call_drawn : (last : Option (List ℕ)) (s : List ℕ) → WhereDrawn (call_of header last s)
   unfolding first_outcome next_outcome
   call_drawn none s =
-      by_header header twelve WhereDrawn s (λ w h b. on_first w h b (header ++ s) (first_of (header ++ s))) (λ n. tt) (λ z. first_drawn z (header ++ s) (first_of (header ++ s)))
+      by_header header twelve WhereDrawn s (λ screen. on_first screen (header ++ s) (first_of (header ++ s))) (λ n. tt) (λ z. first_drawn z (header ++ s) (first_of (header ++ s)))
   call_drawn (some old) s =
-      by_header header twelve WhereDrawn (old ++ s) (λ w h b. on_both w h b (header ++ (old ++ s)) (both_of (header ++ (old ++ s)))) (λ n. tt)
+      by_header header twelve WhereDrawn (old ++ s) (λ screen. on_both screen (header ++ (old ++ s)) (both_of (header ++ (old ++ s)))) (λ n. tt)
       (λ z. both_drawn z (header ++ (old ++ s)) (both_of (header ++ (old ++ s))))
 
   drawn : (z : Lent) (x : Outcome) → WhereDrawn x → accepted (answer_of z x) ≡ true → Drawn x
@@ -83,19 +78,19 @@ module _ (header : List ℕ) (twelve : length header ≡ 12) where
   drawn z (drafted i d) m e = m
 
   module _ (x : Outcome) (m : Drawn x) (rest others tail : List ℕ) (whole : others ≡ index_words_of x ++ tail) where
-    row_alike : (r : DeviceRegion) → Placed w h b r → RowAlike header (index_words_of x ++ rest) others r
+    row_alike : (r : DeviceRegion) → Placed screen r → RowAlike header (index_words_of x ++ rest) others r
     row_alike r p =
-        let y : r.y < h = omega (arith, p.on.some_height, p.on.down) in
-        let row : (t : List ℕ) → candidates w h b r.y (index_words_of x ++ t) ≡ row_list b (row_count h b) m.boxes (r.y / b)
-        = λ t. ap (λ (l : List ℕ). candidates w h b r.y (l ++ t)) m.words_are ∙ plan_row w h b r.y m.boxes t (width_size m.sizes) (height_size m.sizes) (band_size m.sizes) y in
+        let y : r.y < screen.height = omega (arith, p.on.some_height, p.on.down) in
+        let row : (t : List ℕ) → candidates screen r.y (index_words_of x ++ t) ≡ row_list screen.band_height (row_count screen.height screen.band_height) m.boxes (r.y / screen.band_height)
+        = λ t. ap (λ (l : List ℕ). candidates screen r.y (l ++ t)) m.words_are ∙ plan_row screen r.y m.boxes t (width_size m.sizes) (height_size m.sizes) (band_size m.sizes) y in
         record {
-          answered = ap (λ (l : List ℕ). refusal w h b r.y (l ++ rest)) m.words_are ∙ plan_accepted w h b r.y m.boxes rest (width_size m.sizes) (height_size m.sizes) (band_size m.sizes) y;
-          alike = row rest ∙ sym (row tail) ∙ ap (candidates w h b r.y) (sym whole);
+          answered = ap (λ (l : List ℕ). refusal screen r.y (l ++ rest)) m.words_are ∙ plan_accepted screen r.y m.boxes rest (width_size m.sizes) (height_size m.sizes) (band_size m.sizes) y;
+          alike = row rest ∙ sym (row tail) ∙ ap (candidates screen r.y) (sym whole);
         }
 
     rows_alike : All (RowAlike header (index_words_of x ++ rest) others) (drafted_regions x)
-    rows_alike = all_map (Placed w h b) (RowAlike header (index_words_of x ++ rest) others) row_alike (drafted_regions x)
-        (subst (All (Placed w h b)) (sym m.regions_are) (boxes_schedulable m.sizes m.rects).placed)
+    rows_alike = all_map (Placed screen) (RowAlike header (index_words_of x ++ rest) others) row_alike (drafted_regions x)
+        (subst (All (Placed screen)) (sym m.regions_are) (boxes_schedulable m.sizes m.rects).placed)
 
 pub same_rows : SameRows
 same_rows header twelve last s z e rest =

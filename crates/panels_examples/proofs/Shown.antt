@@ -16,7 +16,7 @@ use Rattle.affine.specs.Affines.{bounding_box, transform_rect_bbox}
 use Rattle.device.specs.declared.DeviceRegion.{DeviceRegion}
 use Rattle.commands.specs.Bounds.{united_from, bounds}
 use Rattle.index_words.specs.Painting.{paint_all, paint_at}
-use Rattle.candidates.specs.Table.{bad_size, bad_sizes, bad_row, find_row, find}
+use Rattle.candidates.specs.Table.{bad_row, find_row, find}
 use Rattle.painting.specs.Inked as Inked
 use Rattle.panels.specs.Panels.{Ordering, Orders, paint_whole, paint_region, PanelsAgree}
 use Rattle.panels.proofs.Entries.{panels_agree}
@@ -25,13 +25,14 @@ use Rattle.panels_examples.specs.Frames.{P, turn, upper, lower, paint, mark, fra
 use Rattle.panels_examples.specs.Shown.{Show, Turns, Shown}
 use Rattle.panels_examples.proofs.Calls.{index, worked}
 use Rattle.panels_examples.proofs.Trace as Trace
+use Rattle.screen.specs.Sizes.{screen, size_fits}
 
 -- ---- the theorem
 twelve : length header ≡ 12
 unfolding bytes
 twelve = refl
 
-pub entries_keep : PanelsAgree 8 8 4 P
+pub entries_keep : PanelsAgree (screen 8 8 4) P
 unfolding bytes u32_at
 entries_keep = panels_agree header twelve
 
@@ -60,7 +61,7 @@ turns p q k l a b = (
 )
 
 pub shown : Shown
-unfolding paint_whole paint_region paint_all paint_at find find_row bad_row bad_sizes bad_size Inked.paint Inked.text Inked.shape Inked.mark touches positive_area meets spans bounds united_from transform_rect_bbox bounding_box larger smaller lt add mul neg of_int
+unfolding paint_whole paint_region paint_all paint_at find find_row bad_row size_fits Inked.paint Inked.text Inked.shape Inked.mark touches positive_area meets spans bounds united_from transform_rect_bbox bounding_box larger smaller lt add mul neg of_int
 shown = record {
   reads_one = worked.reads_one;
   reads_two = worked.reads_two;

@@ -26,6 +26,7 @@ use Rattle.panels_examples.specs.Frames.{P, room, first, cut, crowded, turn, upp
 use Rattle.panels_examples.specs.Shown.{answer}
 use Rattle.panels_examples.proofs.Calls.{index, worked}
 use Rattle.panels_examples.proofs.Painted.{Painted, painted_rules, pages_painted, pages_one_box}
+use Rattle.screen.specs.Sizes.{screen}
 
 abbrev pub one : List ℕ
 one = strip page_one
@@ -92,31 +93,31 @@ module _ (R : Option (List ℕ) → List ℕ → Slices → List DeviceRegion) (
 
   -- ---- the panels
   abbrev pub S : Type 0
-  S = State Q 8 8 4 0 paint (cell 0)
+  S = State Q (screen 8 8 4) 0 paint (cell 0)
 
   abbrev next : S → Frame Q → S
-  next = step Q 8 8 4 0 paint (cell 0)
+  next = step Q (screen 8 8 4) 0 paint (cell 0)
 
   abbrev page : List Command → Pixel 8 8 → ℕ
-  page = paint_whole Q 8 8 4 0 paint (cell 0)
+  page = paint_whole Q (screen 8 8 4) 0 paint (cell 0)
 
   -- the first page, which both panels paint whole
   abbrev pub first_shown : S
   first_shown = record { last = some one; panel_a = page page_one; panel_b = page page_one }
 
-  pub before_is : next (next (next (start Q 8 8 4 0 paint (cell 0)) (under first [])) (under cut [])) (under crowded []) ≡ first_shown
+  pub before_is : next (next (next (start Q (screen 8 8 4) 0 paint (cell 0)) (under first [])) (under cut [])) (under crowded []) ≡ first_shown
   before_is =
       ap (λ (s : S). next (next s (under cut [])) (under crowded []))
-      (step_accepted Q 8 8 4 0 paint (cell 0) _ (under first []) (ap accepted first_planned) ∙ (λ i. record { last = some one; panel_a = page (worked.reads_one i); panel_b = page (worked.reads_one i) }))
-      ∙ ap (λ (s : S). next s (under crowded [])) (step_refused Q 8 8 4 0 paint (cell 0) first_shown (under cut []) (ap accepted cut_refused))
-      ∙ step_refused Q 8 8 4 0 paint (cell 0) first_shown (under crowded []) (ap accepted crowded_refused)
+      (step_accepted Q (screen 8 8 4) 0 paint (cell 0) _ (under first []) (ap accepted first_planned) ∙ (λ i. record { last = some one; panel_a = page (worked.reads_one i); panel_b = page (worked.reads_one i) }))
+      ∙ ap (λ (s : S). next s (under crowded [])) (step_refused Q (screen 8 8 4) 0 paint (cell 0) first_shown (under cut []) (ap accepted cut_refused))
+      ∙ step_refused Q (screen 8 8 4) 0 paint (cell 0) first_shown (under crowded []) (ap accepted crowded_refused)
 
   -- the second, which panel B paints in the regions of the order, by these words
   abbrev pub second_shown : List ℕ → S
-  second_shown words = record { last = some two; panel_a = page page_two; panel_b = paint_regions Q 8 8 4 0 paint (cell 0) page_two words order (page page_one) }
+  second_shown words = record { last = some two; panel_a = page page_two; panel_b = paint_regions Q (screen 8 8 4) 0 paint (cell 0) page_two words order (page page_one) }
 
-  pub after_is : foldl next (start Q 8 8 4 0 paint (cell 0)) frames ≡ second_shown (W (some one) two (room 7))
+  pub after_is : foldl next (start Q (screen 8 8 4) 0 paint (cell 0)) frames ≡ second_shown (W (some one) two (room 7))
   after_is =
       ap (λ (s : S). next s (under turn order)) before_is
-      ∙ step_accepted Q 8 8 4 0 paint (cell 0) first_shown (under turn order) (ap accepted turn_planned)
-      ∙ (λ i. record { last = some two; panel_a = page (worked.reads_two i); panel_b = paint_regions Q 8 8 4 0 paint (cell 0) (worked.reads_two i) (W (some one) two (room 7)) order (page page_one) })
+      ∙ step_accepted Q (screen 8 8 4) 0 paint (cell 0) first_shown (under turn order) (ap accepted turn_planned)
+      ∙ (λ i. record { last = some two; panel_a = page (worked.reads_two i); panel_b = paint_regions Q (screen 8 8 4) 0 paint (cell 0) (worked.reads_two i) (W (some one) two (room 7)) order (page page_one) })

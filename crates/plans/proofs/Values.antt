@@ -26,6 +26,7 @@ use Rattle.runtime.specs.Work.{work_of}
 use Rattle.plans.specs.Drafts.{Draft, draft, Items, drafted}
 use Rattle.plans.specs.Space.{Lent}
 use Rattle.plans.specs.Answers.{items_fit, draft_fits, planned, counts, answer_of}
+use Rattle.screen.specs.declared.Screen.{Screen}
 
 -- two drafts that only the signs of zero edges tell apart
 pub record SameDraft (d e : Draft) : Type 0 where
@@ -34,10 +35,10 @@ pub record SameDraft (d e : Draft) : Type 0 where
   pub words : d.words ≡ e.words
   pub emitted : d.emitted ≡ e.emitted
 
-pub draft_same : (w h b : ℕ) (rs ss : List Rect) (cs ds : List Command) → SameBoxes rs ss → ByPlace Matched cs ds → SameDraft (draft w h b rs cs) (draft w h b ss ds)
-draft_same w h b rs ss cs ds p m = record {
+pub draft_same : (screen : Screen) (rs ss : List Rect) (cs ds : List Command) → SameBoxes rs ss → ByPlace Matched cs ds → SameDraft (draft screen rs cs) (draft screen ss ds)
+draft_same screen rs ss cs ds p m = record {
   rects = p;
-  regions = schedule_same w h b rs ss p;
+  regions = schedule_same screen rs ss p;
   words = index_words_same b (row_count h b) (map bounds cs) (map bounds ds) (place_mapped SameBox bounds cs ds (place_map Matched (λ c d. SameBox (bounds c) (bounds d)) matched_bounds cs ds m));
   emitted = place_length Matched cs ds m;
 }

@@ -19,11 +19,11 @@ returns-in_err-changed-clause-answer c =
 
 pub draft-requires : goal.draft-requires
 draft-requires c =
-    stand_ready c.in_ok-screen.screen.width c.in_ok-screen.screen.height c.in_ok-screen.screen.band_height _ _ _ _ _ _ _ _ c.in_ok-changed.ensures _ (new_part c.in_ok-changed.changed.first c.in_ok-changed.changed.commands _) c.args.room.rects c.args.room.regions c.args.room.words (header_sizes _ _ c.in_ok-screen.ensures _ refl) _ _ _ c.requires
+    stand_ready c.in_ok-screen.screen _ _ _ _ _ _ _ _ c.in_ok-changed.ensures _ (new_part c.in_ok-changed.changed.first c.in_ok-changed.changed.commands _) c.args.room.rects c.args.room.regions c.args.room.words (header_sizes _ _ c.in_ok-screen.ensures _ refl) _ _ _ c.requires
 
 pub returns : goal.returns
 returns c =
-    let all = stand_meets c.in_ok-screen.screen.width c.in_ok-screen.screen.height c.in_ok-screen.screen.band_height _ _ _ _ _ _ _ _ c.in_ok-changed.ensures _ (new_part c.in_ok-changed.changed.first c.in_ok-changed.changed.commands _) c.args.room.rects c.args.room.regions c.args.room.words c.requires.rect_room _ _ _ c.draft.ensures.answer c.draft.ensures.stands in
+    let all = stand_meets c.in_ok-screen.screen _ _ _ _ _ _ _ _ c.in_ok-changed.ensures _ (new_part c.in_ok-changed.changed.first c.in_ok-changed.changed.commands _) c.args.room.rects c.args.room.regions c.args.room.words c.requires.rect_room _ _ _ c.draft.ensures.answer c.draft.ensures.stands in
     let o = header_strips _ _ c.in_ok-screen.ensures _ refl c.args.entry in
     record {
       answer = all.0 ∙ ap (answer_of _) o;
