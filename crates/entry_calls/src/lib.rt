@@ -2,7 +2,7 @@
 #![tactic(auto)]
 
 ghost use Rattle.std.specs.Prelude.{◌≡◌, IfOk};
-ghost use Rattle.plans.specs.Answers.{Answered, index_words_of, published, rect_words_of, region_words_of};
+ghost use Rattle.planner.specs.Calls.{Promise};
 ghost use Rattle.plans.specs.Space.{lent_of};
 ghost use Rattle.entry_calls.specs.Lending.{at_most, lent_for, slices_of};
 ghost use Rattle.frame_drafts.specs.Scratch.{outcome};
@@ -86,10 +86,7 @@ impl Space {
 
     // The plan that the entry makes of its input, or its refusal.
     pub fn plan(&mut self, entry: Entry, input: &[u8]) -> Result<Plan, Refusal>
-        ensures answer { Answered (lent_of (slices_of self.old)) (outcome entry input.now) result }
-        ensures rectangles { self.new.rects.items ≡ published result (rect_words_of (outcome entry input.now)) self.old.rects.items }
-        ensures scheduled { self.new.regions.items ≡ published result (region_words_of (outcome entry input.now)) self.old.regions.items }
-        ensures index { self.new.words.items ≡ published result (index_words_of (outcome entry input.now)) self.old.words.items }
+        ensures promise { Promise (outcome entry input.now) (slices_of self.old) (slices_of self.new) result }
         ensures space { lent_of (slices_of self.new) ≡ lent_of (slices_of self.old) }
     {
         planner::plan(

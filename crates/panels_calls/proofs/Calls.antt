@@ -18,7 +18,8 @@ use Rattle.frame_drafts.specs.Scratch.{outcome}
 use Rattle.plans.specs.declared.Plan.{Plan}
 use Rattle.plans.specs.Drafts.{Draft, Outcome, turned, drafted, first_outcome, next_outcome}
 use Rattle.plans.specs.Space.{Slices, Lent, lent_of}
-use Rattle.plans.specs.Answers.{items_fit, draft_fits, counts, answer_of, accepted, counts_of, Answered, region_words_of, index_words_of, published}
+use Rattle.plans.specs.Answers.{items_fit, draft_fits, counts, answer_of, accepted, counts_of, region_words_of, index_words_of, published}
+use Rattle.planner.specs.Calls.{Promise}
 use Rattle.panels.specs.Entries.{call_of, drafted_regions}
 use Rattle.panels_calls.specs.Calls.{Called, CalledAs, CalledFirst, CalledNext}
 
@@ -55,6 +56,6 @@ module _ (input : List ℕ) (before after : Slices) (r : Result Plan Refusal) wh
   pub as_next : ◌≡◌ {A = Type 0} (CalledAs Next input before after r) (CalledNext input before after r)
   as_next = refl
 
-  pub called_as : (entry : Entry) → Answered (lent_of before) (outcome entry input) r → after.regions ≡ published r (region_words_of (outcome entry input)) before.regions → after.words ≡ published r (index_words_of (outcome entry input)) before.words → CalledAs entry input before after r
-  called_as First a g k = λ header s e. called header none s before after r (first_outcome input) (ap first_outcome e) a.plan g k
-  called_as Next a g k = λ header old s e. called header (some old) s before after r (next_outcome input) (ap next_outcome e) a.plan g k
+  pub called_as : (entry : Entry) → Promise (outcome entry input) before after r → CalledAs entry input before after r
+  called_as First p = λ header s e. called header none s before after r (first_outcome input) (ap first_outcome e) p.answer.plan p.scheduled p.index
+  called_as Next p = λ header old s e. called header (some old) s before after r (next_outcome input) (ap next_outcome e) p.answer.plan p.scheduled p.index

@@ -29,7 +29,14 @@ pub fn frame(
     draft_regions: &mut [u32],
     draft_words: &mut [u32],
 ) -> Result<Plan, Refusal>
-    ensures { CalledAs entry input.now (slices rects.old regions.old words.old boxes.old below.old items.old item_boxes.old glyph_items.old draft_rects.old work.old spare.old draft_regions.old draft_words.old) (slices rects.new regions.new words.new boxes.new below.new items.new item_boxes.new glyph_items.new draft_rects.new work.new spare.new draft_regions.new draft_words.new) result }
+    ensures { CalledAs entry input.now
+        (slices
+        rects.old regions.old words.old
+        boxes.old below.old items.old item_boxes.old glyph_items.old draft_rects.old work.old spare.old draft_regions.old draft_words.old)
+        (slices
+        rects.new regions.new words.new
+        boxes.new below.new items.new item_boxes.new glyph_items.new draft_rects.new work.new spare.new draft_regions.new draft_words.new)
+        result }
 {
     planner::plan(
         entry,

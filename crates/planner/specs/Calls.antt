@@ -4,7 +4,9 @@ use Rattle.std.specs.Prelude.{◌≡◌, List, ℕ, ◌*◌, ◌≤◌, length, 
 use Rattle.std.specs.Float.{binary64}
 use Rattle.std.specs.Float.Ieee.{of_bits}
 use Rattle.plans.specs.declared.Plan.{Plan}
-use Rattle.plans.specs.Space.{Slices}
+use Rattle.plans.specs.Drafts.{Outcome}
+use Rattle.plans.specs.Space.{Slices, lent_of}
+use Rattle.plans.specs.Answers.{Answered, rect_words_of, region_words_of, index_words_of, published}
 
 -- the slices in the order in which the entries take them
 abbrev pub slices : List Float → List ℕ → List ℕ → List Float → List ℕ → List ℕ → List Float → List ℕ → List Float → List ℕ → List ℕ → List ℕ → List ℕ → Slices
@@ -53,3 +55,23 @@ Zeros before after = after ≡ replicate (length before) 0
 
 abbrev pub ZeroFloats : List Float → List Float → Type 0
 ZeroFloats before after = after ≡ replicate (length before) (of_bits binary64 0)
+
+pub record Cleared (before after : Slices) : Type 0 where
+  pub boxes : ZeroFloats before.boxes after.boxes
+  pub below : Zeros before.below after.below
+  pub items : Zeros before.items after.items
+  pub item_boxes : ZeroFloats before.item_boxes after.item_boxes
+  pub glyphs : Zeros before.glyphs after.glyphs
+  pub draft_rects : ZeroFloats before.draft_rects after.draft_rects
+  pub work : Zeros before.work after.work
+  pub spare : Zeros before.spare after.spare
+  pub draft_regions : Zeros before.draft_regions after.draft_regions
+  pub draft_words : Zeros before.draft_words after.draft_words
+
+-- What a call promises, by what its bytes come to: its answer, which is that of the space lent; the three outputs; and the scratch.
+pub record Promise (o : Outcome) (before after : Slices) (r : Result Plan Refusal) : Type 0 where
+  pub answer : Answered (lent_of before) o r
+  pub rectangles : after.rects ≡ published r (rect_words_of o) before.rects
+  pub scheduled : after.regions ≡ published r (region_words_of o) before.regions
+  pub index : after.words ≡ published r (index_words_of o) before.words
+  pub scratch : Cleared before after

@@ -6,7 +6,7 @@ ghost use Rattle.std.specs.Prelude.{◌≡◌, ◌++◌, ◌/◌, min, length, t
 ghost use Rattle.plans.specs.Space.{lent_of};
 ghost use Rattle.plans.specs.Answers as Answers;
 ghost use Rattle.frame_drafts.specs.Scratch.{outcome};
-ghost use Rattle.planner.specs.Calls.{slices, rect_count, region_count, word_count, Copies, Zeros, ZeroFloats};
+ghost use Rattle.planner.specs.Calls.{slices, Promise, rect_count, region_count, word_count, Copies, Zeros, ZeroFloats};
 
 pub use frame_drafts::Entry;
 use plans::{Plan, Room};
@@ -99,11 +99,14 @@ pub fn plan(
     draft_regions: &mut [u32],
     draft_words: &mut [u32],
 ) -> Result<Plan, Refusal>
-    ensures answer { Answers.Answered (lent_of (slices rects.old regions.old words.old boxes.old below.old items.old item_boxes.old glyph_items.old draft_rects.old work.old spare.old draft_regions.old draft_words.old)) (outcome entry input.now) result }
-    ensures rectangles { rects.new ≡ Answers.published result (Answers.rect_words_of (outcome entry input.now)) rects.old }
-    ensures scheduled { regions.new ≡ Answers.published result (Answers.region_words_of (outcome entry input.now)) regions.old }
-    ensures index { words.new ≡ Answers.published result (Answers.index_words_of (outcome entry input.now)) words.old }
-    ensures scratch { (ZeroFloats boxes.old boxes.new) × (Zeros below.old below.new) × (Zeros items.old items.new) × (ZeroFloats item_boxes.old item_boxes.new) × (Zeros glyph_items.old glyph_items.new) × (ZeroFloats draft_rects.old draft_rects.new) × (Zeros work.old work.new) × (Zeros spare.old spare.new) × (Zeros draft_regions.old draft_regions.new) × (Zeros draft_words.old draft_words.new) }
+    ensures { Promise (outcome entry input.now)
+        (slices
+        rects.old regions.old words.old
+        boxes.old below.old items.old item_boxes.old glyph_items.old draft_rects.old work.old spare.old draft_regions.old draft_words.old)
+        (slices
+        rects.new regions.new words.new
+        boxes.new below.new items.new item_boxes.new glyph_items.new draft_rects.new work.new spare.new draft_regions.new draft_words.new)
+        result }
 {
     let room = Room {
         rects: rect_room(rects, draft_rects, work, spare),

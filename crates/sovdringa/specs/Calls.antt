@@ -1,15 +1,14 @@
--- The plan that a call answers, from its slices and its bytes alone.
-use Rattle.refusals.specs.declared.Refusal.{Refusal}
-use Rattle.std.specs.Prelude.{List, ℕ, Result}
-use Rattle.plans.specs.declared.Plan.{Plan}
-use Rattle.plans.specs.Drafts.{first_outcome, next_outcome}
+-- An exported entry: a plan, and its answer in numbers.
+use Rattle.std.specs.Prelude.{◌≡◌, List, ℕ}
+use Rattle.plans.specs.Drafts.{Outcome}
 use Rattle.plans.specs.Space.{Slices, lent_of}
-use Rattle.plans.specs.Answers.{answer_of}
+use Rattle.plans.specs.Answers.{answer_of, number_of}
+use Rattle.planner.specs.Calls.{Promise}
+use Rattle.answer_words.specs.Words.{overwritten, answer_words}
 
--- of a first frame: header and one strip
-abbrev pub first_plan : Slices → List ℕ → Result Plan Refusal
-first_plan z s = answer_of (lent_of z) (first_outcome s)
-
--- of a frame after another: header, the last accepted strip and the new one
-abbrev pub next_plan : Slices → List ℕ → Result Plan Refusal
-next_plan z s = answer_of (lent_of z) (next_outcome s)
+-- What such an entry promises, by what its bytes come to: document 01's number; the whole answer in the words lent for it, as many as there is room for; and what
+-- the plan promises of the slices.
+pub record Exported (o : Outcome) (before after : Slices) (old new : List ℕ) (result : ℕ) : Type 0 where
+  pub number : result ≡ number_of (answer_of (lent_of before) o)
+  pub words : new ≡ overwritten (answer_words (answer_of (lent_of before) o)) old
+  pub plan : Promise o before after (answer_of (lent_of before) o)
