@@ -1,8 +1,10 @@
 -- What sizes are that fit. Assumes nothing.
-use Rattle.std.proofs.Common.{◌≡◌, ℕ, ◌<◌, ◌≤◌, Bool, true, false, ◌&&◌, eqb, leb, refl, arith, leb-true}
-use borrow.Author.Tests.{eqb-false}
+use Rattle.std.proofs.Common.{◌≡◌, ℕ, ◌+◌, ◌-◌, ◌/◌, ◌<◌, ◌≤◌, Bool, true, false, ◌&&◌, eqb, leb, refl, ap, ◌∙◌, arith, leb-true}
+use native.Mathlib.Nat.{add-div_right, div-le_self}
+use borrow.Author.Tests.{eqb-false, ne_eqb, le-leb}
 use mathlib.Core.Bool.{false≢true}
 use Rattle.lists.specs.Pick.{pick}
+use Rattle.rows.specs.Rows.{row_count}
 use Rattle.std.proofs.lemmas.Bool.{and_parts}
 use Rattle.screen.specs.declared.Screen.{Screen}
 use Rattle.screen.specs.Sizes.{size_fits, fits}
@@ -14,6 +16,19 @@ size_limits n e = go (eqb n 0) refl e
     go : (t : Bool) → eqb n 0 ≡ t → pick t false (leb n 32768) ≡ true → (0 < n) × (n ≤ 32768)
     go true q e = absurd (false≢true e)
     go false q e = let z = eqb-false n 0 q in (omega (arith, z), leb-true n 32768 e)
+
+pub size_from : (n : ℕ) → 0 < n → n ≤ 32768 → size_fits n ≡ true
+unfolding size_fits
+size_from n s l = simp (ne_eqb n 0 (λ e. omega arith), le-leb n 32768 l)
+
+-- a screen has as many rows as a size allows
+pub rows_size : (h b : ℕ) → size_fits h ≡ true → size_fits b ≡ true → size_fits (row_count h b) ≡ true
+rows_size h b s t =
+    let H = size_limits h s in
+    let B = (size_limits b t).0 in
+    let e : h + (b - 1) ≡ h - 1 + b = omega (arith, H.0, B) in
+    let k : (h + (b - 1)) / b ≡ (h - 1) / b + 1 = ap (λ (z : ℕ). z / b) e ∙ add-div_right (h - 1) B in
+    size_from (row_count h b) (omega (arith, k)) (omega (arith, k, H.0, H.1, div-le_self (h - 1) b))
 
 -- a screen whose sizes are from 1 to 32,768
 pub record Fits (s : Screen) : Type 0 where
