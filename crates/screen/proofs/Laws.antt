@@ -21,15 +21,6 @@ pub size_from : (n : ℕ) → 0 < n → n ≤ 32768 → size_fits n ≡ true
 unfolding size_fits
 size_from n s l = simp (ne_eqb n 0 (λ e. omega arith), le-leb n 32768 l)
 
--- a screen has as many rows as a size allows
-pub rows_size : (h b : ℕ) → size_fits h ≡ true → size_fits b ≡ true → size_fits (row_count h b) ≡ true
-rows_size h b s t =
-    let H = size_limits h s in
-    let B = (size_limits b t).0 in
-    let e : h + (b - 1) ≡ h - 1 + b = omega (arith, H.0, B) in
-    let k : (h + (b - 1)) / b ≡ (h - 1) / b + 1 = ap (λ (z : ℕ). z / b) e ∙ add-div_right (h - 1) B in
-    size_from (row_count h b) (omega (arith, k)) (omega (arith, k, H.0, H.1, div-le_self (h - 1) b))
-
 -- a screen whose sizes are from 1 to 32,768
 pub record Fits (s : Screen) : Type 0 where
   pub some_width : 0 < s.width
@@ -47,3 +38,13 @@ sizes_of s e =
     let b = size_limits s.height u.0 in
     let c = size_limits s.band_height u.1 in
     record { some_width = a.0; width_most = a.1; some_height = b.0; height_most = b.1; some_band = c.0; band_most = c.1 }
+
+-- a screen has as many rows as a size allows
+pub rows_size : (s : Screen) → fits s ≡ true → size_fits (row_count s.height s.band_height) ≡ true
+rows_size s e =
+    let f = sizes_of s e in
+    let h = s.height in
+    let b = s.band_height in
+    let z : h + (b - 1) ≡ h - 1 + b = omega (arith, f.some_height, f.some_band) in
+    let k : (h + (b - 1)) / b ≡ (h - 1) / b + 1 = ap (λ (n : ℕ). n / b) z ∙ add-div_right (h - 1) f.some_band in
+    size_from (row_count h b) (omega (arith, k)) (omega (arith, k, f.some_height, f.height_most, div-le_self (h - 1) b))
