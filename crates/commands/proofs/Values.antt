@@ -6,7 +6,8 @@ use Prim.Native.Nat.{◌<◌}
 use native.Mathlib.Omega.{arith}
 use lib.ListN.{length}
 use lib.Ieee.{Float}
-use Rattle.ieee.proofs.Values.{Same, mul_same, div_same}
+use Rattle.ieee.specs.Values.{Same}
+use Rattle.ieee.proofs.Values.{mul_same, div_same}
 use Rattle.floats.proofs.Orders.{larger_same}
 use Rattle.geometry.specs.declared.Rect.{Rect}
 use Rattle.geometry.specs.Boxes.{intersect, union}

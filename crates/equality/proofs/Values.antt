@@ -9,7 +9,8 @@ use Rattle.std.proofs.lemmas.Bool.{and_parts}
 use Rattle.lists.specs.Members.{All}
 use Rattle.lists.proofs.Bools.{holds}
 use Rattle.ieee.proofs.Rank.{ordered}
-use Rattle.ieee.proofs.Values.{Same, same_value}
+use Rattle.ieee.specs.Values.{Same}
+use Rattle.ieee.proofs.Values.{same_value}
 use Rattle.geometry.specs.declared.Rect.{Rect}
 use Rattle.geometry.specs.Boxes.{same_edges, inflate}
 use Rattle.geometry.proofs.Edges.{Edges, Ordered}
