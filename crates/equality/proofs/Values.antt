@@ -6,6 +6,7 @@ use Prim.Native.Nat.{ℕ}
 use lib.Dec.{T, eqb}
 use lib.Ieee.{Float, eq}
 use Rattle.std.proofs.lemmas.Bool.{and_parts}
+use Rattle.lists.specs.Places.{ByPlace}
 use Rattle.lists.specs.Members.{All}
 use Rattle.lists.proofs.Bools.{holds}
 use Rattle.ieee.proofs.Rank.{ordered}
@@ -14,7 +15,7 @@ use Rattle.ieee.proofs.Values.{same_value}
 use Rattle.geometry.specs.declared.Rect.{Rect}
 use Rattle.geometry.specs.Boxes.{same_edges, inflate}
 use Rattle.geometry.proofs.Edges.{Edges, Ordered}
-use Rattle.geometry.proofs.Values.{SameBox, edges_same, inflate_same}
+use Rattle.geometry.proofs.Values.{SameBox, SameBoxes, edges_same, inflate_same}
 use Rattle.affine.specs.declared.Affine.{Affine}
 use Rattle.affine.proofs.Values.{SameAffine}
 use Rattle.commands.specs.declared.Join.{Join}
