@@ -33,7 +33,7 @@ use Rattle.schedule_laws.proofs.Boxes.{boxes_covered_all}
 use Rattle.painting.specs.Painters.{Pixel, Key, Rules}
 use Rattle.painting.proofs.Alike.{Sound, Unmet, lists_alike}
 
-module _ {screen : Screen} (good : fits screen ≡ true) where
+module _ (screen : Screen) (good : fits screen ≡ true) where
   abbrev sizes : Fits screen
   sizes = sizes_of screen good
 
