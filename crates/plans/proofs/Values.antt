@@ -39,7 +39,7 @@ pub draft_same : (screen : Screen) (rs ss : List Rect) (cs ds : List Command) �
 draft_same screen rs ss cs ds p m = record {
   rects = p;
   regions = schedule_same screen rs ss p;
-  words = index_words_same b (row_count h b) (map bounds cs) (map bounds ds) (place_mapped SameBox bounds cs ds (place_map Matched (λ c d. SameBox (bounds c) (bounds d)) matched_bounds cs ds m));
+  words = index_words_same screen.band_height (row_count screen.height screen.band_height) (map bounds cs) (map bounds ds) (place_mapped SameBox bounds bounds cs ds (place_map Matched (λ c d. SameBox (bounds c) (bounds d)) matched_bounds cs ds m));
   emitted = place_length Matched cs ds m;
 }
 
