@@ -12,10 +12,10 @@ ghost use Rattle.equality.specs.Drawings as Drawings;
 ghost use Rattle.differences.specs.Differences.{rect_symmetric_difference};
 ghost use Rattle.display_list.specs.Lists.{offset_at, clip_number_at};
 ghost use Rattle.strip.specs.Reading.{command_of};
-ghost use Rattle.changes.specs.Changes.{changed_bounds, diff_dirty};
+ghost use Rattle.changes.specs.Changes.{changed_glyphs, changed_bounds, diff_dirty};
 ghost use Rattle.stored_lists.specs.Stored.{Stored, command_in, commands_in};
 ghost use Rattle.rect_list.specs.Rects.{AddedTo, Listed};
-ghost use Rattle.glyph_changes.specs.Runs.{most_boxes, windowed, changed_by, glyphs_of};
+ghost use Rattle.glyph_changes.specs.Runs.{most_boxes, windowed, glyphs_of};
 ghost use Rattle.runtime.specs.Placed as Placed;
 ghost use Rattle.runtime.specs.Placed.{Both, placed_at, stands_for, Standing, whole_length, Pair, AlikeClips, SameRun, RunPair, boxes_in};
 ghost use Rattle.runtime.specs.Work.{work_of};
@@ -230,7 +230,7 @@ impl ListSpace<'_> {
     // Appends the boxes of what changed in the glyphs of a RUN that stands at both places: its operands are read once.
     fn changed_run(self, i: usize, j: usize, rects: &mut RectList)
         requires { RunPair self.bytes.now self.boxes.now self.items.now i j × (rects.old.count + most_boxes < 2 ^ 63) }
-        ensures { AddedTo most_boxes rects.old (changed_by (windowed self.entry.boxes.now (Placed.run_at self.entry.bytes.now self.entry.items.now i)) (windowed self.entry.boxes.now (Placed.run_at self.entry.bytes.now self.entry.items.now j)) (glyphs_of self.entry.bytes.now (Placed.run_at self.entry.bytes.now self.entry.items.now i)) (glyphs_of self.entry.bytes.now (Placed.run_at self.entry.bytes.now self.entry.items.now j))) rects.new }
+        ensures { AddedTo most_boxes rects.old (changed_glyphs (windowed self.entry.boxes.now (Placed.run_at self.entry.bytes.now self.entry.items.now i)) (windowed self.entry.boxes.now (Placed.run_at self.entry.bytes.now self.entry.items.now j)) (glyphs_of self.entry.bytes.now (Placed.run_at self.entry.bytes.now self.entry.items.now i)) (glyphs_of self.entry.bytes.now (Placed.run_at self.entry.bytes.now self.entry.items.now j))) rects.new }
     {
         let at = self.offset_at(i);
         let other = self.offset_at(j);
