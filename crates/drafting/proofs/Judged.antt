@@ -26,7 +26,7 @@ use Rattle.plans.specs.declared.Plan.{Plan}
 use Rattle.plans.specs.Drafts.{Draft}
 use Rattle.plans.specs.Answers.{draft_fits, planned, accepted}
 use Rattle.drafting.specs.Drafted.{draft_in, rooms, judged, indexed, StandsIf}
-use Rattle.drafting.proofs.Words.{rects_length, rects_words, part_rects}
+use Rattle.drafting.proofs.Words.{rects_length, rects_words, part_boxes}
 use Rattle.rect_words.specs.Words.{boxes_to}
 use Rattle.screen.specs.declared.Screen.{Screen}
 
@@ -95,7 +95,7 @@ module _ (screen : Screen) (rs : List Float) (n : ℕ) (ibs : List Float) (first
   -- the rectangles fit, and those in front are scheduled
   module _ {gs new : List ℕ} (few : n ≤ R) (long : 4 * R ≤ length rs) {x : Option Totals} (front : Answers (schedule screen (boxes_to (take (4 * n) rs) (length (take (4 * n) rs) / 4))) gs x new) where
     given : {y : Option Totals} → x ≡ y → Answers (schedule screen (boxes_to rs n)) gs y new
-    given q = subst (λ (y : Option Totals). Answers (schedule screen (boxes_to rs n)) gs y new) q (subst (λ (r : List Rect). Answers (schedule screen r) gs x new) (part_rects rs n (omega arith)) front)
+    given q = subst (λ (y : Option Totals). Answers (schedule screen (boxes_to rs n)) gs y new) q (subst (λ (r : List Rect). Answers (schedule screen r) gs x new) (part_boxes rs n (omega arith)) front)
 
     pub regions_full : 4 * G ≤ length gs → x ≡ None → Refused
     regions_full k q = regions_many (omega (arith, unlisted (schedule screen (boxes_to rs n)) gs new (given q)))

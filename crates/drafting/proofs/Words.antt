@@ -50,34 +50,23 @@ rect_front m xs i h =
     let e = get_or-take m xs (i + 3) nan (omega arith) in
     λ j. record { x0 = a j; y0 = b j; x1 = c j; y1 = e j }
 
-rects_front : (m : ℕ) (xs : List Float) (n : ℕ) → 4 * n ≤ m → boxes_to (take m xs) n ≡ boxes_to xs n
-unfolding boxes_to box_at
-rects_front m xs zero h = refl
-rects_front m xs (suc n) h =
-    let a = rects_front m xs n (omega arith) in
-    let b = rect_front m xs (4 * n) (omega arith) in
-    λ j. a j ++ (b j ∷ [])
-
 boxes_front : (m : ℕ) (xs : List Float) (n : ℕ) → 4 * n ≤ m → boxes_to (take m xs) n ≡ boxes_to xs n
-unfolding boxes_to box_at
+unfolding boxes_to
 boxes_front m xs zero h = refl
 boxes_front m xs (suc n) h =
     let a = boxes_front m xs n (omega arith) in
-    let b = rect_front m xs (4 * n + 0) (omega arith) in
+    let b = rect_front m xs (4 * n) (omega arith) in
     λ j. a j ++ (b j ∷ [])
 
 pub part_count : (xs : List Float) (n : ℕ) → 4 * n ≤ length xs → length (take (4 * n) xs) / 4 ≡ n
 part_count xs n h = omega (arith, length-take-le (4 * n) xs h)
-
-pub part_rects : (xs : List Float) (n : ℕ) → 4 * n ≤ length xs → boxes_to (take (4 * n) xs) (length (take (4 * n) xs) / 4) ≡ boxes_to xs n
-part_rects xs n h = ap (boxes_to (take (4 * n) xs)) (part_count xs n h) ∙ rects_front (4 * n) xs n (omega arith)
 
 pub part_boxes : (xs : List Float) (n : ℕ) → 4 * n ≤ length xs → boxes_to (take (4 * n) xs) (length (take (4 * n) xs) / 4) ≡ boxes_to xs n
 part_boxes xs n h = ap (boxes_to (take (4 * n) xs)) (part_count xs n h) ∙ boxes_front (4 * n) xs n (omega arith)
 
 -- their words are the first 4 * n of the space
 pub rects_words : (xs : List Float) (n : ℕ) → 4 * n ≤ length xs → take (4 * n) xs ≡ words_of_rects (boxes_to xs n)
-unfolding boxes_to box_at
+unfolding boxes_to
 rects_words xs zero h = unfold words_of_rects in refl
 rects_words xs (suc n) h =
     let e : 4 * suc n ≡ 4 * n + 4 = omega arith in
@@ -99,11 +88,5 @@ rect_of_words (r ∷ l) (suc i) d h =
     let c : 4 * suc i + 3 ≡ suc (suc (suc (suc (4 * i + 3)))) = omega arith in
     rw (a, b, c, z) (rect_of_words l i d (omega arith))
 
-boxes_same : (xs : List Float) (n : ℕ) → boxes_to xs n ≡ boxes_to xs n
-unfolding boxes_to box_at boxes_to box_at
-boxes_same xs zero = refl
-boxes_same xs (suc n) = let e : 4 * n ≡ 4 * n + 0 = omega arith in λ i. boxes_same xs n i ++ (rect_from xs (e i) ∷ [])
-
 pub rects_back : (l : List Rect) (xs : List Float) (d : Rect) → take (4 * length l) xs ≡ words_of_rects l → boxes_to xs (length l) ≡ l
-unfolding box_at
-rects_back l xs d h = boxes_same xs (length l) ∙ boxes_are xs l d (λ i k. let e : 4 * i + 0 ≡ 4 * i = omega arith in ap (rect_from xs) e ∙ sym (rect_front (4 * length l) xs (4 * i) (omega arith)) ∙ ap (λ (ws : List Float). rect_from ws (4 * i)) h ∙ rect_of_words l i d k)
+rects_back l xs d h = boxes_are xs l d (λ i k. sym (rect_front (4 * length l) xs (4 * i) (omega arith)) ∙ ap (λ (ws : List Float). rect_from ws (4 * i)) h ∙ rect_of_words l i d k)

@@ -1,7 +1,7 @@
 // A draft in scratch: once its rectangles stand there, their regions and the index of the new strip's commands.
 #![tactic(auto)]
 
-ghost use Rattle.std.specs.Prelude.{◌≡◌, ◌/◌, ◌≤◌, length};
+ghost use Rattle.std.specs.Prelude.{◌≡◌, ◌/◌, ◌≤◌, length, true};
 ghost use Rattle.screen.specs.Sizes.{fits};
 ghost use Rattle.band_index.specs.Answer.{index_of, stored};
 ghost use Rattle.drafting.specs.Drafted.{draft_in, rooms, indexed, judged, StandsIf, Ready};

@@ -99,7 +99,6 @@ rect_behind xs k i =
 
 module _ (s : List ℕ) (bs : List Float) (ns is : List ℕ) (ibs : List Float) (first n : ℕ) (h : Stored (first + n) s bs ns is ibs) where
   pub stored_boxes : (cs : List Command) → commands_in s bs ns is first n ≡ cs → boxes_to (drop (4 * first) ibs) n ≡ map bounds cs
-  unfolding box_at
   stored_boxes cs e =
       let d : Rect = rect_from ibs 0 in
       let k : length (map bounds (commands_in s bs ns is first n)) ≡ n = map_length (commands_in s bs ns is first n) ∙ list_length s bs ns is n first in
