@@ -10,6 +10,7 @@ use lib.Ieee.Fits.{and_l, and_r}
 use Rattle.lists.proofs.Bools.{holds, is_true}
 use Rattle.lists.proofs.Picks.{pick_cases}
 use Rattle.geometry.specs.declared.Rect.{Rect}
+use Rattle.rect_words.proofs.Lists.{box_from}
 use Rattle.rect_words.specs.Words.{rect_from, box_at, boxes_to}
 use Rattle.commands.specs.Bounds.{Command, bounds}
 use Rattle.strip.specs.declared.Cursor.{Cursor}
@@ -89,22 +90,12 @@ map_length : (l : List Command) → length (map bounds l) ≡ length l
 map_length [] = refl
 map_length (c ∷ l) = ap suc (map_length l)
 
-rect_behind : (xs : List Float) (k i : ℕ) → rect_from (drop k xs) i ≡ rect_from xs (k + i)
-rect_behind xs k i =
-    let a = get_or-drop k xs i nan in
-    let b : get_or (drop k xs) (i + 1) nan ≡ get_or xs (k + i + 1) nan = let e : k + (i + 1) ≡ k + i + 1 = omega arith in get_or-drop k xs (i + 1) nan ∙ ap (λ (j : ℕ). get_or xs j nan) e in
-    let c : get_or (drop k xs) (i + 2) nan ≡ get_or xs (k + i + 2) nan = let e : k + (i + 2) ≡ k + i + 2 = omega arith in get_or-drop k xs (i + 2) nan ∙ ap (λ (j : ℕ). get_or xs j nan) e in
-    let d : get_or (drop k xs) (i + 3) nan ≡ get_or xs (k + i + 3) nan = let e : k + (i + 3) ≡ k + i + 3 = omega arith in get_or-drop k xs (i + 3) nan ∙ ap (λ (j : ℕ). get_or xs j nan) e in
-    λ j. record { x0 = a j; y0 = b j; x1 = c j; y1 = d j }
-
 module _ (s : List ℕ) (bs : List Float) (ns is : List ℕ) (ibs : List Float) (first n : ℕ) (h : Stored (first + n) s bs ns is ibs) where
   pub stored_boxes : (cs : List Command) → commands_in s bs ns is first n ≡ cs → boxes_to (drop (4 * first) ibs) n ≡ map bounds cs
   stored_boxes cs e =
       let d : Rect = rect_from ibs 0 in
       let k : length (map bounds (commands_in s bs ns is first n)) ≡ n = map_length (commands_in s bs ns is first n) ∙ list_length s bs ns is n first in
       ap (boxes_to (drop (4 * first) ibs)) (sym k)
-      ∙ boxes_are (drop (4 * first) ibs) (map bounds (commands_in s bs ns is first n)) d (λ i l.
-      let u : i < n = omega arith in
-      let v : 4 * first + (4 * i + 0) ≡ 4 * (first + i) = omega arith in
-      rect_behind ibs (4 * first) (4 * i + 0) ∙ ap (rect_from ibs) v ∙ h.boxed (first + i) (omega arith) ∙ sym (list_at s bs ns is n first i d u))
+      ∙ boxes_are (drop (4 * first) ibs) (map bounds (commands_in s bs ns is first n)) d (λ i l. let u : i < n = omega arith in
+      box_from ibs first i (first + i) refl ∙ h.boxed (first + i) (omega arith) ∙ sym (list_at s bs ns is n first i d u))
       ∙ ap (map bounds) e

@@ -23,7 +23,7 @@ use Rattle.frame.specs.Frame.{sizes_at, header_of, first_of, both_of}
 use Rattle.stored_lists.specs.Stored.{commands_in, Stored}
 use Rattle.recording.specs.Recorded.{Space, SameLengths, Room, Holds, Two, RecordsFirst, RecordsBoth}
 use Rattle.plans.specs.declared.Plan.{Plan}
-use Rattle.plans.specs.Drafts.{Items, Outcome, turned, drafted, screen_rect, on_first, on_both, first_outcome, next_outcome}
+use Rattle.plans.specs.Drafts.{Items, Outcome, turned, drafted, screen_rect, on_first, on_both, first_outcome, next_outcome, items_of_both}
 use Rattle.plans.specs.Space.{Lent}
 use Rattle.plans.specs.Answers.{items_fit, answer_of}
 use Rattle.commands.specs.Bounds.{bounds}
@@ -67,9 +67,9 @@ module _ (s : List ℕ) {z y : Space} (glyphs : List ℕ) {r : Result Strips Ref
     next_within = both_within s r a both q
 
     abbrev items : Items
-    items = record { commands = old.commands + new.commands; glyphs = old.glyphs + new.glyphs; clips = old.clips + new.clips }
+    items = items_of_both old new
 
-    module _ {counts : Counts} (counted : counts ≡ counted_both both) {t : Bool} (judges : t ≡ items_fit (lent_scratch y.boxes y.below y.items y.item_boxes glyphs 0 0 0) (of_counts counts)) where
+    module _ {counts : Counts} (are : counts ≡ counted_both both) {t : Bool} (judges : t ≡ items_fit (lent_scratch y.boxes y.below y.items y.item_boxes glyphs 0 0 0) (of_counts counts)) where
       -- no sum of two counts saturates
       same_counts : of_counts counts ≡ items
       same_counts =
@@ -78,7 +78,7 @@ module _ (s : List ℕ) {z y : Space} (glyphs : List ℕ) {r : Result Strips Ref
           let c : count_both old.commands new.commands ≡ old.commands + new.commands = omega (arith, o.commands, n.commands) in
           let g : count_both old.glyphs new.glyphs ≡ old.glyphs + new.glyphs = omega (arith, o.glyphs, n.glyphs) in
           let p : count_both old.clips new.clips ≡ old.clips + new.clips = omega (arith, o.clips, n.clips) in
-          ap of_counts counted ∙ λ i. record { commands = c i; glyphs = g i; clips = p i }
+          ap of_counts are ∙ λ i. record { commands = c i; glyphs = g i; clips = p i }
 
       both_judged : t ≡ items_fit (lent_scratch y.boxes y.below y.items y.item_boxes glyphs 0 0 0) items
       both_judged = judges ∙ ap (items_fit (lent_scratch y.boxes y.below y.items y.item_boxes glyphs 0 0 0)) same_counts
@@ -120,9 +120,9 @@ module _ (s : List ℕ) (screen : Screen) {z y : Space} (glyphs : List ℕ) {r :
   pub first_refused : (why : Refusal) → r ≡ Err why → (R G W : ℕ) → Err why ≡ answer_of (scratch_for z glyphs R G W) (on_first screen s (first_of s))
   first_refused why q R G W = rw (sym (sym q ∙ a)) refl
 
-  module _ {new : Cursor} (q : r ≡ Ok new) {counts : Counts} (counted : counts ≡ counted new) {t : Bool} (judges : t ≡ items_fit (lent_scratch y.boxes y.below y.items y.item_boxes glyphs 0 0 0) (of_counts counts)) where
+  module _ {new : Cursor} (q : r ≡ Ok new) {counts : Counts} (are : counts ≡ counted new) {t : Bool} (judges : t ≡ items_fit (lent_scratch y.boxes y.below y.items y.item_boxes glyphs 0 0 0) (of_counts counts)) where
     judged_one : t ≡ items_fit (lent_scratch y.boxes y.below y.items y.item_boxes glyphs 0 0 0) (of_counts (counted new))
-    judged_one = judges ∙ ap (λ (x : Counts). items_fit (lent_scratch y.boxes y.below y.items y.item_boxes glyphs 0 0 0) (of_counts x)) counted
+    judged_one = judges ∙ ap (λ (x : Counts). items_fit (lent_scratch y.boxes y.below y.items y.item_boxes glyphs 0 0 0) (of_counts x)) are
 
     pub first_over : t ≡ false → (R G W : ℕ) → refused NoRoom 0 ≡ answer_of (scratch_for z glyphs R G W) (on_first screen s (first_of s))
     first_over e R G W = rw (sym (sym q ∙ a)) (no_items (scratch_for z glyphs R G W) _ _ (sym (items_same z y glyphs R G W _ l) ∙ sym judged_one ∙ e))
