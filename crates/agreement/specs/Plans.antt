@@ -6,7 +6,7 @@ use Rattle.lists.specs.Places.{ByPlace}
 use Rattle.ieee.specs.Values.{Same}
 use Rattle.strip.specs.declared.Cursor.{Cursor}
 use Rattle.strip.specs.Reading.{commands_of}
-use Rattle.frame.specs.Frame.{strips, header_of, first_of, both_of}
+use Rattle.frame.specs.Frame.{header_length, strips, header_of, first_of, both_of}
 use Rattle.plans.specs.Drafts.{Outcome, first_outcome, next_outcome}
 use Rattle.plans.specs.Space.{Lent}
 use Rattle.plans.specs.Answers.{answer_of, rect_words_of, region_words_of, index_words_of}

@@ -7,13 +7,14 @@ use Rattle.refusals.specs.declared.Refusal.{Refusal}
 use Rattle.screen.specs.declared.Screen.{Screen}
 use Rattle.frame.specs.Frame.{header_of}
 use Rattle.frame_drafts.proofs.Inputs.{header_sizes}
+use Rattle.screen.proofs.Laws.{sizes_of}
 
 abbrev HasBands : Option Screen → Type 0
 HasBands (Some screen) = 0 < screen.band_height
 HasBands None = Unit {0}
 
 has_bands : (s : List ℕ) (r : Result Screen Refusal) → r ≡ header_of s → HasBands (result_ok r)
-has_bands s (Ok screen) e = (header_sizes s (Ok screen) e screen refl).some_band
+has_bands s (Ok screen) e = (sizes_of screen (header_sizes s (Ok screen) e screen refl)).some_band
 has_bands s (Err why) e = tt
 
 pub some_bands : (s : List ℕ) (r : Result Screen Refusal) → r ≡ header_of s → (screen : Screen) → Some screen ≡ result_ok r → 0 < screen.band_height

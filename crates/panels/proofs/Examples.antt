@@ -13,12 +13,12 @@ use Rattle.painting.proofs.Alike.{Sound}
 use Rattle.panels.specs.Panels.{Planner, PanelsAgree}
 use Rattle.panels.proofs.Plans.{boxes_since, Plans}
 use Rattle.panels.proofs.Panels.{plans_agree}
+use Rattle.screen.specs.declared.Screen.{Screen}
+use Rattle.screen.specs.Sizes.{fits}
 
 record Listed : Type 0 where
   commands : List Command
   sound : All Sound commands
-use Rattle.screen.specs.declared.Screen.{Screen}
-use Rattle.screen.specs.Sizes.{fits}
 
 module _ (screen : Screen) where
   listing : Planner

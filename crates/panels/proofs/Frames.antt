@@ -9,10 +9,10 @@ use Rattle.lists.proofs.Members.{in_all}
 use Rattle.commands.specs.Bounds.{Command}
 use Rattle.painting.specs.Painters.{Pixel}
 use Rattle.panels.specs.Panels.{Planner, Frame, is_accepted, Used, now, later, OrderedBy, Orders, paint_whole, State, repaint, step}
+use Rattle.screen.specs.declared.Screen.{Screen}
 
 pub used_none : (P : Planner) (last : Option P.Strip) (Q : Command → Type 0) (c : Command) → Used P last [] c → Q c
 used_none P last Q c u = elim u [ ]
-use Rattle.screen.specs.declared.Screen.{Screen}
 
 module _ (P : Planner) (last : Option P.Strip) (f : Frame P) (fs : List (Frame P)) where
   -- ---- what all commands of accepted frames have

@@ -32,6 +32,8 @@ use Rattle.painting.proofs.Alike.{Sound}
 use Rattle.painting.proofs.Schedules.{candidates_answer, uncovered_alike, candidates_paint}
 use Rattle.panels.specs.Panels.{Planner, Frame, Apart, InBand, is_accepted, Used, now, later, OrderedBy, Orders, paint_whole, paint_region, paint_regions, State, start, repaint, step, SamePanels, Planned, Agree, PanelsAgree}
 use Rattle.panels.proofs.Plans.{boxes_since, GoodLast, Call, Plans}
+use Rattle.screen.specs.declared.Screen.{Screen}
+use Rattle.screen.specs.Sizes.{fits}
 
 -- ---- a region's pixels, as a test and as a record
 test_covers : (r : DeviceRegion) (p q : ℕ) → has (Some r) p q ≡ true → Covers p q r
@@ -42,8 +44,6 @@ covers_test : (r : DeviceRegion) (p q : ℕ) → Covers p q r → has (Some r) p
 covers_test r p q c = and_from (leb r.x p && ltb p (r.x + r.width)) (leb r.y q && ltb q (r.y + r.height))
     (and_from (leb r.x p) (ltb p (r.x + r.width)) (le-leb r.x p c.from_left) (lt-ltb p (r.x + r.width) c.to_right))
     (and_from (leb r.y q) (ltb q (r.y + r.height)) (le-leb r.y q c.from_top) (lt-ltb q (r.y + r.height) c.to_bottom))
-use Rattle.screen.specs.declared.Screen.{Screen}
-use Rattle.screen.specs.Sizes.{fits}
 
 module _ (screen : Screen) (P : Planner) (good : P.Strip → Type 0) (L : Plans screen P good) {C : Type 0} (background : C) {M : Command → Type 0} {paint : Command → Pixel screen.width screen.height → C → C} {mark : Key → Pixel screen.width screen.height → C → C} (absent : Command) (R : Rules screen.width screen.height C M paint mark) where
   abbrev shown : List Command → Pixel screen.width screen.height → C

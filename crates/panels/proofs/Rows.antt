@@ -19,7 +19,6 @@ use Rattle.changes.specs.Changes.{diff_dirty}
 use Rattle.candidates.specs.Table.{candidates, refusal}
 use Rattle.candidates.proofs.Plans.{plan_accepted, plan_row}
 use Rattle.scheduler.specs.Schedule.{schedule}
-use Rattle.painting.proofs.Schedules.{width_size, height_size, band_size}
 use Rattle.schedule_laws.specs.Placed.{Placed}
 use Rattle.schedule_laws.proofs.Boxes.{boxes_schedulable}
 use Rattle.strip.specs.Reading.{commands_of}
@@ -82,9 +81,9 @@ module _ (header : List ℕ) (twelve : length header ≡ 12) where
     row_alike r p =
         let y : r.y < screen.height = omega (arith, p.on.some_height, p.on.down) in
         let row : (t : List ℕ) → candidates screen r.y (index_words_of x ++ t) ≡ row_list screen.band_height (row_count screen.height screen.band_height) m.boxes (r.y / screen.band_height)
-        = λ t. ap (λ (l : List ℕ). candidates screen r.y (l ++ t)) m.words_are ∙ plan_row screen r.y m.boxes t (width_size m.sizes) (height_size m.sizes) (band_size m.sizes) y in
+        = λ t. ap (λ (l : List ℕ). candidates screen r.y (l ++ t)) m.words_are ∙ plan_row screen r.y m.boxes t m.sizes y in
         record {
-          answered = ap (λ (l : List ℕ). refusal screen r.y (l ++ rest)) m.words_are ∙ plan_accepted screen r.y m.boxes rest (width_size m.sizes) (height_size m.sizes) (band_size m.sizes) y;
+          answered = ap (λ (l : List ℕ). refusal screen r.y (l ++ rest)) m.words_are ∙ plan_accepted screen r.y m.boxes rest m.sizes y;
           alike = row rest ∙ sym (row tail) ∙ ap (candidates screen r.y) (sym whole);
         }
 

@@ -7,14 +7,9 @@ ghost use Rattle.std.specs.Prelude.{◌≡◌};
 ghost use Rattle.plans.specs.Drafts.{first_outcome, next_outcome};
 ghost use Rattle.planner.specs.Calls.{slices};
 ghost use Rattle.candidates.specs.Table as Table;
-<<<<<<< HEAD
-ghost use Rattle.screen.specs.Sizes as Sizes;
-ghost use Rattle.answer_words.specs.Words.{overwritten, answer_words, part_words};
-ghost use Rattle.sovdringa.specs.Calls.{first_plan, next_plan};
-=======
 ghost use Rattle.answer_words.specs.Words.{overwritten, part_words};
 ghost use Rattle.sovdringa.specs.Calls.{Exported};
->>>>>>> efb657e (What a call promises is one record)
+ghost use Rattle.screen.specs.Sizes as Sizes;
 
 use planner::Entry;
 use screen::Screen;
@@ -38,14 +33,6 @@ pub extern "C" fn sovdringa_plan_first(
     draft_words: &mut [u32],
     answer: &mut [u64],
 ) -> u32
-<<<<<<< HEAD
-    ensures number { result ≡ Answers.number_of (first_plan (slices rects.old regions.old words.old boxes.old below.old items.old item_boxes.old glyph_items.old draft_rects.old work.old spare.old draft_regions.old draft_words.old) input.now) }
-    ensures answer { answer.new ≡ overwritten (answer_words (first_plan (slices rects.old regions.old words.old boxes.old below.old items.old item_boxes.old glyph_items.old draft_rects.old work.old spare.old draft_regions.old draft_words.old) input.now)) answer.old }
-    ensures rectangles { rects.new ≡ Answers.published (first_plan (slices rects.old regions.old words.old boxes.old below.old items.old item_boxes.old glyph_items.old draft_rects.old work.old spare.old draft_regions.old draft_words.old) input.now) (Answers.rect_words_of (first_outcome input.now)) rects.old }
-    ensures scheduled { regions.new ≡ Answers.published (first_plan (slices rects.old regions.old words.old boxes.old below.old items.old item_boxes.old glyph_items.old draft_rects.old work.old spare.old draft_regions.old draft_words.old) input.now) (Answers.region_words_of (first_outcome input.now)) regions.old }
-    ensures index { words.new ≡ Answers.published (first_plan (slices rects.old regions.old words.old boxes.old below.old items.old item_boxes.old glyph_items.old draft_rects.old work.old spare.old draft_regions.old draft_words.old) input.now) (Answers.index_words_of (first_outcome input.now)) words.old }
-    ensures scratch { (ZeroFloats boxes.old boxes.new) × (Zeros below.old below.new) × (Zeros items.old items.new) × (ZeroFloats item_boxes.old item_boxes.new) × (Zeros glyph_items.old glyph_items.new) × (ZeroFloats draft_rects.old draft_rects.new) × (Zeros work.old work.new) × (Zeros spare.old spare.new) × (Zeros draft_regions.old draft_regions.new) × (Zeros draft_words.old draft_words.new) }
-=======
     ensures { Exported (first_outcome input.now)
         (slices
         rects.old regions.old words.old
@@ -54,7 +41,6 @@ pub extern "C" fn sovdringa_plan_first(
         rects.new regions.new words.new
         boxes.new below.new items.new item_boxes.new glyph_items.new draft_rects.new work.new spare.new draft_regions.new draft_words.new)
         answer.old answer.new result }
->>>>>>> efb657e (What a call promises is one record)
 {
     let plan = planner::plan(
         Entry::First,
@@ -95,14 +81,6 @@ pub extern "C" fn sovdringa_plan_next(
     draft_words: &mut [u32],
     answer: &mut [u64],
 ) -> u32
-<<<<<<< HEAD
-    ensures number { result ≡ Answers.number_of (next_plan (slices rects.old regions.old words.old boxes.old below.old items.old item_boxes.old glyph_items.old draft_rects.old work.old spare.old draft_regions.old draft_words.old) input.now) }
-    ensures answer { answer.new ≡ overwritten (answer_words (next_plan (slices rects.old regions.old words.old boxes.old below.old items.old item_boxes.old glyph_items.old draft_rects.old work.old spare.old draft_regions.old draft_words.old) input.now)) answer.old }
-    ensures rectangles { rects.new ≡ Answers.published (next_plan (slices rects.old regions.old words.old boxes.old below.old items.old item_boxes.old glyph_items.old draft_rects.old work.old spare.old draft_regions.old draft_words.old) input.now) (Answers.rect_words_of (next_outcome input.now)) rects.old }
-    ensures scheduled { regions.new ≡ Answers.published (next_plan (slices rects.old regions.old words.old boxes.old below.old items.old item_boxes.old glyph_items.old draft_rects.old work.old spare.old draft_regions.old draft_words.old) input.now) (Answers.region_words_of (next_outcome input.now)) regions.old }
-    ensures index { words.new ≡ Answers.published (next_plan (slices rects.old regions.old words.old boxes.old below.old items.old item_boxes.old glyph_items.old draft_rects.old work.old spare.old draft_regions.old draft_words.old) input.now) (Answers.index_words_of (next_outcome input.now)) words.old }
-    ensures scratch { (ZeroFloats boxes.old boxes.new) × (Zeros below.old below.new) × (Zeros items.old items.new) × (ZeroFloats item_boxes.old item_boxes.new) × (Zeros glyph_items.old glyph_items.new) × (ZeroFloats draft_rects.old draft_rects.new) × (Zeros work.old work.new) × (Zeros spare.old spare.new) × (Zeros draft_regions.old draft_regions.new) × (Zeros draft_words.old draft_words.new) }
-=======
     ensures { Exported (next_outcome input.now)
         (slices
         rects.old regions.old words.old
@@ -111,7 +89,6 @@ pub extern "C" fn sovdringa_plan_next(
         rects.new regions.new words.new
         boxes.new below.new items.new item_boxes.new glyph_items.new draft_rects.new work.new spare.new draft_regions.new draft_words.new)
         answer.old answer.new result }
->>>>>>> efb657e (What a call promises is one record)
 {
     let plan = planner::plan(
         Entry::Next,
