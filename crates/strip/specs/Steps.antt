@@ -40,6 +40,16 @@ abbrev pub on_operands : ℕ → Result (Unit {0}) Fault → Result Step Refusal
 on_operands at (Ok u) step = step
 on_operands at (Err f) step = refused f at
 
+-- the cursor behind a CLIP, a POP and an END
+abbrev pub opened : Cursor → Cursor
+opened st = record st { at = st.at + Layout.clip_length; depth = st.depth + 1; clips = st.clips + 1 }
+
+abbrev pub closed : Cursor → Cursor
+closed st = record st { at = st.at + Layout.pop_length; depth = st.depth - 1 }
+
+abbrev pub ended : Cursor → Cursor
+ended st = record st { at = st.at + Layout.end_length }
+
 -- CLIP. 6: "33rd open clip, 4,097th clip pushed"
 unfoldable pub clip_step : List ℕ → Cursor → Result Step Refusal
 clip_step s st =
@@ -47,14 +57,12 @@ clip_step s st =
     (refused TooMany st.at)
     (pick (leb Limits.most_clips st.clips)
     (refused TooMany st.at)
-    (Ok (Clip (record st { at = st.at + Layout.clip_length; depth = st.depth + 1; clips = st.clips + 1 }) (rect_at s (st.at + Layout.clip_box)))))
+    (Ok (Clip (opened st) (rect_at s (st.at + Layout.clip_box)))))
 
 -- POP. 5: "POP with no clip open"
 unfoldable pub pop_step : Cursor → Result Step Refusal
 pop_step st =
-    pick (eqb st.depth 0)
-    (refused NoOpenClip st.at)
-    (Ok (Pop (record st { at = st.at + Layout.pop_length; depth = st.depth - 1 })))
+    pick (eqb st.depth 0) (refused NoOpenClip st.at) (Ok (Pop (closed st)))
 
 -- a drawing command of this length has been read; this many glyphs of it are due
 abbrev pub drawn : Cursor → ℕ → ℕ → Cursor
@@ -104,7 +112,7 @@ glyph_step s st =
 
 -- END
 abbrev pub end_step : Cursor → Result Step Refusal
-end_step st = Ok (End (record st { at = st.at + Layout.end_length }))
+end_step st = Ok (End (ended st))
 
 -- "effect", by the command's byte
 unfoldable pub effect_of : List ℕ → Cursor → ℕ → Result Step Refusal
