@@ -1,6 +1,7 @@
 -- A transform is one of values: affines and boxes that differ in the signs of zeros alone give boxes that do. Assumes nothing.
 use lib.Ieee.{Float}
-use Rattle.ieee.proofs.Values.{Same, add_same, mul_same}
+use Rattle.ieee.specs.Values.{Same}
+use Rattle.ieee.proofs.Values.{add_same, mul_same}
 use Rattle.floats.proofs.Orders.{larger_same, smaller_same}
 use Rattle.geometry.specs.declared.Rect.{Rect}
 use Rattle.geometry.proofs.Values.{SameBox}

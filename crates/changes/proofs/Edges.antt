@@ -4,7 +4,7 @@ use mathlib.Core.List.{List, [], ◌∷◌}
 use lib.Ieee.{Float}
 use Rattle.lists.specs.Pick.{pick}
 use Rattle.lists.specs.Members.{All}
-use Rattle.lists.proofs.Members.{all_none, all_append}
+use Rattle.lists.proofs.Members.{all_none, all_append, all_mapped}
 use Rattle.lists.proofs.Picks.{pick_cases}
 use Rattle.geometry.specs.declared.Rect.{Rect}
 use Rattle.geometry.specs.Boxes.{intersect, union, positive_area}
@@ -15,7 +15,7 @@ use Rattle.commands.specs.Bounds.{Command, bounds, glyph_bounds}
 use Rattle.operand_equality.specs.Operands.{same_glyph}
 use Rattle.equality.specs.Drawings.{equal, fills_alike, runs_alike_clipped}
 use Rattle.differences.specs.Differences.{with_area, rect_difference, rect_symmetric_difference}
-use Rattle.changes.specs.Changes.{changed_glyphs, changed_bounds, diff_dirty}
+use Rattle.changes.specs.Changes.{changed_at, changed_glyphs, changed_bounds, diff_dirty}
 
 module _ (P : Float → Type 0) where
   -- P holds of every edge of the command's box and of its glyphs' boxes
@@ -48,28 +48,34 @@ module _ (P : Float → Type 0) where
   symmetric_edges r s f g = all_append (Edges P) (rect_difference r s) (rect_difference s r) (difference_edges r s f g) (difference_edges s r g f)
 
   -- ---- glyphs
-  glyphs_edges : (o n : Command) (gs hs : List Glyph) → All (λ g. Edges P (glyph_bounds o g)) gs → All (λ h. Edges P (glyph_bounds n h)) hs → All (Edges P) (changed_glyphs o gs n hs)
-  unfolding changed_glyphs All
-  glyphs_edges o n [] [] f g = tt
-  glyphs_edges o n [] (h ∷ hs) f g = (g.0, glyphs_edges o n [] hs f g.1)
-  glyphs_edges o n (j ∷ gs) [] f g = (f.0, glyphs_edges o n gs [] f.1 g)
-  glyphs_edges o n (j ∷ gs) (h ∷ hs) f g =
-      let u = union (glyph_bounds o j) (glyph_bounds n h) in
-      all_append (Edges P) (pick (same_glyph j h) [] (u ∷ [])) (changed_glyphs o gs n hs)
-      (pick_cases (All (Edges P)) (same_glyph j h) [] (u ∷ []) (λ _. tt) (λ _. (union_edges P (glyph_bounds o j) (glyph_bounds n h) f.0 g.0, tt)))
-      (glyphs_edges o n gs hs f.1 g.1)
+  module _ (old new : Glyph → Rect) where
+    abbrev OldEdges : Glyph → Type 0
+    OldEdges g = Edges P (old g)
+
+    abbrev NewEdges : Glyph → Type 0
+    NewEdges h = Edges P (new h)
+
+    glyphs_edges : (gs hs : List Glyph) → All OldEdges gs → All NewEdges hs → All (Edges P) (changed_glyphs old new gs hs)
+    unfolding changed_at changed_glyphs All
+    glyphs_edges [] hs f g = rw (all_mapped new (Edges P) hs) g
+    glyphs_edges (j ∷ gs) [] f g = rw (all_mapped old (Edges P) (j ∷ gs)) f
+    glyphs_edges (j ∷ gs) (h ∷ hs) f g =
+        let u = union (old j) (new h) in
+        all_append (Edges P) (pick (same_glyph j h) [] (u ∷ [])) (changed_glyphs old new gs hs)
+        (pick_cases (All (Edges P)) (same_glyph j h) [] (u ∷ []) (λ _. tt) (λ _. (union_edges P (old j) (new h) f.0 g.0, tt)))
+        (glyphs_edges gs hs f.1 g.1)
 
   -- ---- commands, and lists of them
   pub changed_edges : (o n : Command) → Bounded o → Bounded n → All (Edges P) (changed_bounds o n)
   unfolding changed_bounds All
   changed_edges o n f g =
       let ds = rect_symmetric_difference (bounds o) (bounds n) in
-      let gs = changed_glyphs o o.glyphs n n.glyphs in
+      let gs = changed_glyphs (glyph_bounds o) (glyph_bounds n) o.glyphs n.glyphs in
       let us = union (bounds o) (bounds n) ∷ [] in
       let Q = All (Edges P) in
       pick_cases Q (equal o n) [] (pick (fills_alike o.draw n.draw) ds (pick (runs_alike_clipped o n) gs us)) (λ _. all_none (Edges P))
       (λ _. pick_cases Q (fills_alike o.draw n.draw) ds (pick (runs_alike_clipped o n) gs us) (λ _. symmetric_edges (bounds o) (bounds n) f.box g.box)
-      (λ _. pick_cases Q (runs_alike_clipped o n) gs us (λ _. glyphs_edges o n o.glyphs n.glyphs f.glyphs g.glyphs) (λ _. (union_edges P (bounds o) (bounds n) f.box g.box, tt))))
+      (λ _. pick_cases Q (runs_alike_clipped o n) gs us (λ _. glyphs_edges (glyph_bounds o) (glyph_bounds n) o.glyphs n.glyphs f.glyphs g.glyphs) (λ _. (union_edges P (bounds o) (bounds n) f.box g.box, tt))))
 
   pub dirty_edges : (os ns : List Command) → All Bounded os → All Bounded ns → All (Edges P) (diff_dirty os ns)
   unfolding diff_dirty All

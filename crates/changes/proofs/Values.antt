@@ -1,14 +1,15 @@
 -- What changed is a function of values: of commands that match others, the changed boxes differ in the signs of zeros alone, place by place. Assumes nothing.
 use mathlib.Core.Path.{◌≡◌}
 use mathlib.Core.Bool.{true}
-use mathlib.Core.List.{List, [], ◌∷◌}
+use mathlib.Core.List.{List, [], ◌∷◌, map}
 use lib.Dec.{T}
 use lib.Ieee.Fits.{and_l, and_r}
 use Rattle.lists.specs.Pick.{pick}
 use Rattle.lists.specs.Places.{ByPlace}
 use Rattle.lists.proofs.Bools.{holds, is_true}
-use Rattle.lists.proofs.Places.{place_none, place_one, place_append, place_pick, place_with}
+use Rattle.lists.proofs.Places.{place_none, place_one, place_append, place_pick, place_map, place_mapped, place_with}
 use Rattle.lists.proofs.Relations.{Passes, per_same}
+use Rattle.geometry.specs.declared.Rect.{Rect}
 use Rattle.geometry.specs.Boxes.{union, same_edges}
 use Rattle.geometry.proofs.Edges.{Ordered}
 use Rattle.geometry.proofs.Values.{SameBox, SameBoxes, edges_same, union_same}
@@ -23,7 +24,7 @@ use Rattle.equality.proofs.Values.{Good, equal_bounds, equal_glyph_bounds}
 use Rattle.equality.proofs.Compared.{equal_parts, equal_same, fills_same, runs_same}
 use Rattle.differences.specs.Differences.{rect_symmetric_difference}
 use Rattle.differences.proofs.Values.{symmetric_difference_same}
-use Rattle.changes.specs.Changes.{changed_glyphs, changed_bounds, diff_dirty}
+use Rattle.changes.specs.Changes.{changed_at, changed_glyphs, changed_bounds, diff_dirty}
 
 -- equal commands, run sizes by bits, whose floats are f64 and no NaN
 pub record Matched (c d : Command) : Type 0 where
@@ -45,33 +46,31 @@ matched_glyphs c d m = place_with (Passes equal_glyph) (λ g. Ordered g.bounds) 
     (λ g h p q t. let s = same_glyph g h in let e = same_edges g.bounds h.bounds in (and_l s e t, edges_same g.bounds h.bounds p q (is_true e (and_r s e t))))
     c.glyphs d.glyphs m.floats.glyphs m.others.glyphs (glyphs_told c.glyphs d.glyphs (equal_parts c d (holds _ m.equals)).glyphs)
 
-module _ (o o' n n' : Command) (p : Matched o o') (q : Matched n n') where
-  old_same : (g g' : Glyph) → SameBox g.bounds g'.bounds → SameBox (glyph_bounds o g) (glyph_bounds o' g')
-  old_same = equal_glyph_bounds o o' p.floats p.others p.equals
+-- a glyph's box by two functions that differ in the signs of zeros alone
+abbrev SameBy : (Glyph → Rect) → (Glyph → Rect) → Type 0
+SameBy f f' = (g g' : Glyph) → SameBox g.bounds g'.bounds → SameBox (f g) (f' g')
 
-  new_same : (h h' : Glyph) → SameBox h.bounds h'.bounds → SameBox (glyph_bounds n h) (glyph_bounds n' h')
-  new_same = equal_glyph_bounds n n' q.floats q.others q.equals
+boxes_same : (f f' : Glyph → Rect) → SameBy f f' → (gs gs' : List Glyph) → SameGlyphs gs gs' → SameBoxes (map f gs) (map f' gs')
+boxes_same f f' p gs gs' a = place_mapped SameBox f f' gs gs' (place_map (λ g h. T (same_glyph g h) × SameBox g.bounds h.bounds) (λ g h. SameBox (f g) (f' h)) (λ g h k. p g h k.1) gs gs' a)
 
-  changed_glyphs_same : (gs gs' hs hs' : List Glyph) → SameGlyphs gs gs' → SameGlyphs hs hs' → SameBoxes (changed_glyphs o gs n hs) (changed_glyphs o' gs' n' hs')
-  unfolding changed_glyphs ByPlace
+module _ (f f' m m' : Glyph → Rect) (p : SameBy f f') (q : SameBy m m') where
+  changed_glyphs_same : (gs gs' hs hs' : List Glyph) → SameGlyphs gs gs' → SameGlyphs hs hs' → SameBoxes (changed_glyphs f m gs hs) (changed_glyphs f' m' gs' hs')
+  unfolding changed_at changed_glyphs ByPlace
   changed_glyphs_same [] (g' ∷ gs') hs hs' a b = absurd a
   changed_glyphs_same (g ∷ gs) [] hs hs' a b = absurd a
-  changed_glyphs_same [] [] [] [] a b = tt
-  changed_glyphs_same [] [] [] (h' ∷ hs') a b = absurd b
-  changed_glyphs_same [] [] (h ∷ hs) [] a b = absurd b
-  changed_glyphs_same [] [] (h ∷ hs) (h' ∷ hs') a b = (new_same h h' b.0.1, changed_glyphs_same [] [] hs hs' a b.1)
+  changed_glyphs_same [] [] hs hs' a b = boxes_same m m' q hs hs' b
   changed_glyphs_same (g ∷ gs) (g' ∷ gs') [] (h' ∷ hs') a b = absurd b
   changed_glyphs_same (g ∷ gs) (g' ∷ gs') (h ∷ hs) [] a b = absurd b
-  changed_glyphs_same (g ∷ gs) (g' ∷ gs') [] [] a b = (old_same g g' a.0.1, changed_glyphs_same gs gs' [] [] a.1 b)
+  changed_glyphs_same (g ∷ gs) (g' ∷ gs') [] [] a b = boxes_same f f' p (g ∷ gs) (g' ∷ gs') a
   changed_glyphs_same (g ∷ gs) (g' ∷ gs') (h ∷ hs) (h' ∷ hs') a b =
-      let u = union (glyph_bounds o g) (glyph_bounds n h) in
-      let v = union (glyph_bounds o' g') (glyph_bounds n' h') in
-      place_append SameBox (pick (same_glyph g h) [] (u ∷ [])) (changed_glyphs o gs n hs) (pick (same_glyph g' h') [] (v ∷ [])) (changed_glyphs o' gs' n' hs')
-      (place_pick SameBox (same_glyph g h) (same_glyph g' h') [] (u ∷ []) [] (v ∷ []) (per_same same_glyph per_glyph g g' h h' a.0.0 b.0.0) tt
-      (union_same (glyph_bounds o g) (glyph_bounds o' g') (glyph_bounds n h) (glyph_bounds n' h') (old_same g g' a.0.1) (new_same h h' b.0.1), tt))
+      let u = union (f g) (m h) in
+      let v = union (f' g') (m' h') in
+      place_append SameBox (pick (same_glyph g h) [] (u ∷ [])) (changed_glyphs f m gs hs) (pick (same_glyph g' h') [] (v ∷ [])) (changed_glyphs f' m' gs' hs')
+      (place_pick SameBox (same_glyph g h) (same_glyph g' h') [] (u ∷ []) [] (v ∷ []) (per_same same_glyph per_glyph g g' h h' a.0.0 b.0.0) tt (union_same (f g) (f' g') (m h) (m' h') (p g g' a.0.1) (q h h' b.0.1), tt))
       (changed_glyphs_same gs gs' hs hs' a.1 b.1)
 
-  -- ---- two commands
+-- ---- two commands
+module _ (o o' n n' : Command) (p : Matched o o') (q : Matched n n') where
   pub changed_bounds_same : SameBoxes (changed_bounds o n) (changed_bounds o' n')
   unfolding changed_bounds
   changed_bounds_same =
@@ -81,8 +80,8 @@ module _ (o o' n n' : Command) (p : Matched o o') (q : Matched n n') where
       let f = holds (equal n n') q.equals in
       let ds = rect_symmetric_difference (bounds o) (bounds n) in
       let ds' = rect_symmetric_difference (bounds o') (bounds n') in
-      let gs = changed_glyphs o o.glyphs n n.glyphs in
-      let gs' = changed_glyphs o' o'.glyphs n' n'.glyphs in
+      let gs = changed_glyphs (glyph_bounds o) (glyph_bounds n) o.glyphs n.glyphs in
+      let gs' = changed_glyphs (glyph_bounds o') (glyph_bounds n') o'.glyphs n'.glyphs in
       let us = union (bounds o) (bounds n) ∷ [] in
       let us' = union (bounds o') (bounds n') ∷ [] in
       let rs = pick (runs_alike_clipped o n) gs us in
@@ -90,7 +89,8 @@ module _ (o o' n n' : Command) (p : Matched o o') (q : Matched n n') where
       place_pick SameBox (equal o n) (equal o' n') [] (pick (fills_alike o.draw n.draw) ds rs) [] (pick (fills_alike o'.draw n'.draw) ds' rs') (equal_same o o' n n' e f) (place_none SameBox)
       (place_pick SameBox (fills_alike o.draw n.draw) (fills_alike o'.draw n'.draw) ds rs ds' rs' (fills_same o o' n n' e f) (symmetric_difference_same (bounds o) (bounds o') (bounds n) (bounds n') a b)
       (place_pick SameBox (runs_alike_clipped o n) (runs_alike_clipped o' n') gs us gs' us' (runs_same o o' n n' e f (holds _ p.sizes) (holds _ q.sizes))
-      (changed_glyphs_same o.glyphs o'.glyphs n.glyphs n'.glyphs (matched_glyphs o o' p) (matched_glyphs n n' q))
+      (changed_glyphs_same (glyph_bounds o) (glyph_bounds o') (glyph_bounds n) (glyph_bounds n') (equal_glyph_bounds o o' p.floats p.others p.equals) (equal_glyph_bounds n n' q.floats q.others q.equals)
+      o.glyphs o'.glyphs n.glyphs n'.glyphs (matched_glyphs o o' p) (matched_glyphs n n' q))
       (place_one SameBox (union (bounds o) (bounds n)) (union (bounds o') (bounds n')) (union_same (bounds o) (bounds o') (bounds n) (bounds n') a b))))
 
 -- ---- lists

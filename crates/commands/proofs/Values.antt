@@ -6,14 +6,16 @@ use Prim.Native.Nat.{◌<◌}
 use native.Mathlib.Omega.{arith}
 use lib.ListN.{length}
 use lib.Ieee.{Float}
-use Rattle.ieee.proofs.Values.{Same, mul_same, div_same}
+use Rattle.ieee.specs.Values.{Same}
+use Rattle.ieee.proofs.Values.{mul_same, div_same}
 use Rattle.floats.proofs.Orders.{larger_same}
 use Rattle.geometry.specs.declared.Rect.{Rect}
 use Rattle.geometry.specs.Boxes.{intersect, union}
 use Rattle.geometry.proofs.Edges.{Edges, edges_map}
-use Rattle.geometry.proofs.Values.{SameBox, union_same, intersect_same}
+use Rattle.geometry.proofs.Values.{SameBox, SameBoxes, union_same, intersect_same}
 use Rattle.affine.specs.declared.Affine.{Affine}
 use Rattle.affine.proofs.Values.{SameAffine, transform_same}
+use Rattle.lists.specs.Places.{ByPlace}
 use Rattle.lists.specs.Members.{All}
 use Rattle.lists.proofs.Members.{all_map}
 use Rattle.commands.specs.declared.Join.{Join}
@@ -84,35 +86,26 @@ unfolding stroke_bounds_inflation
 inflation_same s t k =
     mul_same _ _ _ _ (div_same s.width t.width two k.width) (larger_same _ _ _ _ (join_same s.join t.join s.miter_limit t.miter_limit k.join k.limit) (inl (λ i. cap_scale (k.start i) (cap_scale (k.end i) one))))
 
--- ---- lists of boxes, place by place
-unfoldable pub SameBoxes : List Rect → List Rect → Type 0
-SameBoxes [] [] = Unit {0}
-SameBoxes [] (d ∷ ds) = ⊥
-SameBoxes (c ∷ cs) [] = ⊥
-SameBoxes (c ∷ cs) (d ∷ ds) = SameBox c d × SameBoxes cs ds
-
-unfoldable pub SameInk : List Glyph → List Glyph → Type 0
-SameInk [] [] = Unit {0}
-SameInk [] (h ∷ hs) = ⊥
-SameInk (g ∷ gs) [] = ⊥
-SameInk (g ∷ gs) (h ∷ hs) = SameBox g.bounds h.bounds × SameInk gs hs
+-- ---- the boxes of glyphs, and lists of clips, place by place
+abbrev pub SameInk : List Glyph → List Glyph → Type 0
+SameInk gs hs = ByPlace (λ g h. SameBox g.bounds h.bounds) gs hs
 
 united_from_lem : (a b : Rect) (gs hs : List Glyph) → SameBox a b → SameInk gs hs → SameBox (united_from a gs) (united_from b hs)
-unfolding united_from SameInk
+unfolding united_from ByPlace
 united_from_lem a b [] [] p q = p
 united_from_lem a b [] (h ∷ hs) p q = absurd q
 united_from_lem a b (g ∷ gs) [] p q = absurd q
 united_from_lem a b (g ∷ gs) (h ∷ hs) p q = united_from_lem (union a g.bounds) (union b h.bounds) gs hs (union_same a b g.bounds h.bounds p q.0) q.1
 
 pub united_same : (a b : Rect) (gs hs : List Glyph) → SameBox a b → SameInk gs hs → SameBox (united a gs) (united b hs)
-unfolding SameInk
+unfolding ByPlace
 united_same a b [] [] p q = p
 united_same a b [] (h ∷ hs) p q = absurd q
 united_same a b (g ∷ gs) [] p q = absurd q
 united_same a b (g ∷ gs) (h ∷ hs) p q = united_from_lem g.bounds h.bounds gs hs q.0 q.1
 
 clip_from_lem : (a b : Rect) (cs ds : List Rect) → SameBox a b → SameBoxes cs ds → SameBox (clip_from a cs) (clip_from b ds)
-unfolding clip_from SameBoxes
+unfolding clip_from ByPlace
 clip_from_lem a b [] [] p q = p
 clip_from_lem a b [] (d ∷ ds) p q = absurd q
 clip_from_lem a b (c ∷ cs) [] p q = absurd q
@@ -120,13 +113,13 @@ clip_from_lem a b (c ∷ cs) (d ∷ ds) p q = clip_from_lem (intersect a c) (int
 
 -- equal lists of clips have equal active clip boxes, so dew's second comparison of them tells nothing new
 pub clip_box_same : (cs ds : List Rect) → 0 < length cs → SameBoxes cs ds → SameBox (clip_box cs) (clip_box ds)
-unfolding SameBoxes
+unfolding ByPlace
 clip_box_same [] ds h q = absurd (omega arith)
 clip_box_same (c ∷ cs) [] h q = absurd q
 clip_box_same (c ∷ cs) (d ∷ ds) h q = clip_from_lem c d cs ds q.0 q.1
 
 pub clipped_same : (cs ds : List Rect) (a b : Rect) → SameBoxes cs ds → SameBox a b → SameBox (clipped cs a) (clipped ds b)
-unfolding SameBoxes
+unfolding ByPlace
 clipped_same [] [] a b q p = p
 clipped_same [] (d ∷ ds) a b q p = absurd q
 clipped_same (c ∷ cs) [] a b q p = absurd q

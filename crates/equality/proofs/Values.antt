@@ -6,14 +6,16 @@ use Prim.Native.Nat.{ℕ}
 use lib.Dec.{T, eqb}
 use lib.Ieee.{Float, eq}
 use Rattle.std.proofs.lemmas.Bool.{and_parts}
+use Rattle.lists.specs.Places.{ByPlace}
 use Rattle.lists.specs.Members.{All}
 use Rattle.lists.proofs.Bools.{holds}
 use Rattle.ieee.proofs.Rank.{ordered}
-use Rattle.ieee.proofs.Values.{Same, same_value}
+use Rattle.ieee.specs.Values.{Same}
+use Rattle.ieee.proofs.Values.{same_value}
 use Rattle.geometry.specs.declared.Rect.{Rect}
 use Rattle.geometry.specs.Boxes.{same_edges, inflate}
 use Rattle.geometry.proofs.Edges.{Edges, Ordered}
-use Rattle.geometry.proofs.Values.{SameBox, edges_same, inflate_same}
+use Rattle.geometry.proofs.Values.{SameBox, SameBoxes, edges_same, inflate_same}
 use Rattle.affine.specs.declared.Affine.{Affine}
 use Rattle.affine.proofs.Values.{SameAffine}
 use Rattle.commands.specs.declared.Join.{Join}
@@ -26,7 +28,7 @@ use Rattle.commands.specs.declared.DrawCommand.{DrawCommand}
 use Rattle.commands.specs.declared.DrawCommand.TheVariants.{FillPath, StrokePath, GlyphRun, Scene}
 use Rattle.commands.specs.Strokes.{stroke_bounds_inflation}
 use Rattle.commands.specs.Bounds.{Command, transform_of, united, local_bounds, bounds, glyph_bounds}
-use Rattle.commands.proofs.Values.{Entries, DrawFloats, Floats, SameStroke, inflation_same, SameBoxes, SameInk, united_same, bounds_same, glyph_bounds_same}
+use Rattle.commands.proofs.Values.{Entries, DrawFloats, Floats, SameStroke, inflation_same, SameInk, united_same, bounds_same, glyph_bounds_same}
 use Rattle.operand_equality.specs.Operands.{same_affine, join_code, same_cap, same_stroke, same_bits, same_glyph, equal_glyph, same_path, equal_glyphs, same_clips}
 use Rattle.equality.specs.Drawings.{same_fill, same_stroked, same_run, same_scene, run_alike, same_drawing, runs_alike, equal}
 
@@ -95,14 +97,14 @@ stroke_same s t a b c d e =
 
 -- ---- lists
 pub clips_same : (cs ds : List Rect) → All Ordered cs → All Ordered ds → same_clips cs ds ≡ true → SameBoxes cs ds
-unfolding same_clips SameBoxes All
+unfolding same_clips ByPlace All
 clips_same [] [] p q e = tt
 clips_same [] (d ∷ ds) p q e = true≢false (sym e)
 clips_same (c ∷ cs) [] p q e = true≢false (sym e)
 clips_same (c ∷ cs) (d ∷ ds) p q e = let h = and_parts (same_edges c d) (same_clips cs ds) e in (edges_same c d p.0 q.0 h.0, clips_same cs ds p.1 q.1 h.1)
 
 pub glyphs_same : (gs hs : List Glyph) → All (λ g. Ordered g.bounds) gs → All (λ g. Ordered g.bounds) hs → equal_glyphs gs hs ≡ true → SameInk gs hs
-unfolding equal_glyphs equal_glyph SameInk All
+unfolding equal_glyphs equal_glyph ByPlace All
 glyphs_same [] [] p q e = tt
 glyphs_same [] (h ∷ hs) p q e = true≢false (sym e)
 glyphs_same (g ∷ gs) [] p q e = true≢false (sym e)

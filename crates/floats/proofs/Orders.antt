@@ -4,7 +4,8 @@ use lib.Ieee.{Float, lt}
 use Rattle.lists.specs.Pick.{pick}
 use Rattle.lists.proofs.Picks.{pick_cases, pick_true, pick_false}
 use Rattle.ieee.proofs.Rank.{rank, ordered, lt_ranks, not_lt_ranks, ranks_lt, ranks_not_lt}
-use Rattle.ieee.proofs.Values.{Same, lt_same}
+use Rattle.ieee.specs.Values.{Same}
+use Rattle.ieee.proofs.Values.{lt_same}
 use Rattle.floats.specs.Order.{larger, smaller}
 
 -- both are one of the two

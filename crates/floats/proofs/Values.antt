@@ -1,7 +1,8 @@
 -- Rounding and the next lower f64 are functions of values: 0 and -0 give the same. Assumes nothing.
 use Rattle.std.proofs.Common.{◌≡◌, Bool, true, false, refl}
 use lib.Ieee.{Float}
-use Rattle.ieee.proofs.Values.{zero_of, Same, by_value}
+use Rattle.ieee.specs.Values.{zero_of, Same}
+use Rattle.ieee.proofs.Values.{by_value}
 use Rattle.floats.specs.Whole.{floor, ceil}
 use Rattle.floats.specs.Next.{next_down}
 

@@ -5,7 +5,8 @@ use lib.Dec.{not_T}
 use lib.Ieee.{Float, nan, inf, fin, binary64, up, down, fits, lt}
 use lib.Ieee.Fits.{and_r, down_pos}
 use Rattle.ieee.proofs.Rank.{middle_is, middle_part, unit, middle, scale, rank, ordered, unit_pos, up_lt, down_lt, magnitude_law, ordered_fits, whole_part, rank_lt, rank_whole, whole_ordered, to_floor}
-use Rattle.ieee.proofs.Values.{Same, same_rank}
+use Rattle.ieee.specs.Values.{Same}
+use Rattle.ieee.proofs.Values.{same_rank}
 use Rattle.floats.specs.Whole.{whole, floor, ceil}
 use Rattle.lists.proofs.Bools.{same_bool}
 

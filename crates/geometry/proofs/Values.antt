@@ -3,7 +3,8 @@ use Rattle.std.proofs.Common.{◌≡◌, ℕ, ◌+◌, true, ◌&&◌, List, ref
 use Rattle.lists.specs.Places.{ByPlace}
 use lib.Ieee.{Float, eq}
 use lib.Ieee.Fits.{and_l, and_r}
-use Rattle.ieee.proofs.Values.{Same, same_value, add_same, sub_same, lt_same}
+use Rattle.ieee.specs.Values.{Same}
+use Rattle.ieee.proofs.Values.{same_value, add_same, sub_same, lt_same}
 use Rattle.floats.specs.Order.{larger, smaller}
 use Rattle.floats.specs.Whole.{whole}
 use Rattle.floats.proofs.Orders.{larger_same, smaller_same}

@@ -1,7 +1,7 @@
 -- Runs of glyphs, place by place. Assumes nothing.
 use mathlib.Core.Path.{◌≡◌, refl, sym, ap, ◌∙◌}
 use mathlib.Core.Bool.{Bool, true, false, ◌&&◌}
-use mathlib.Core.List.{List, [], ◌∷◌, ◌++◌, append-nil}
+use mathlib.Core.List.{List, [], ◌∷◌, ◌++◌, map, append-nil}
 use mathlib.Core.Logic.{◌⊎◌, inl, inr, ⊎_elim}
 use Prim.Native.Nat.{ℕ, zero, suc, ◌+◌, ◌-◌, ◌*◌, ◌≤◌, ◌<◌}
 use native.Mathlib.Omega.{arith}
@@ -18,7 +18,7 @@ use Rattle.operand_equality.proofs.Selves.{glyph_self, equal_glyph_self}
 use Rattle.strip_format.specs.Format.{glyph_at, glyphs_from}
 use Rattle.strip_format.proofs.Alike.{glyph_twice}
 use Rattle.strip_format.proofs.Numbers.{single_finite, rect_numbers}
-use Rattle.glyph_changes.specs.Runs.{boxes_by, changed_at, changed_by}
+use Rattle.changes.specs.Changes.{changed_at, changed_glyphs}
 
 -- ---- the glyphs of a run from the one of a number on
 module _ (s : List ℕ) (at n : ℕ) where
@@ -38,30 +38,28 @@ module _ (s : List ℕ) (at n : ℕ) where
 
 -- ---- the boxes of what is left of a run
 module _ (f : Glyph → Rect) (s : List ℕ) (at n : ℕ) where
-  pub boxes_end : (k : ℕ) → n ≤ k → boxes_by f (from s at n k) ≡ []
-  unfolding boxes_by
-  boxes_end k h = ap (boxes_by f) (from_end s at n k h)
+  pub boxes_end : (k : ℕ) → n ≤ k → map f (from s at n k) ≡ []
+  boxes_end k h = ap (map f) (from_end s at n k h)
 
-  pub boxes_next : (k : ℕ) {b : Rect} → k < n → b ≡ f (glyph_at s (at + 45 * k)) → boxes_by f (from s at n k) ≡ (b ∷ []) ++ boxes_by f (from s at n (k + 1))
-  unfolding boxes_by
-  boxes_next k h e = ap (boxes_by f) (from_next s at n k h) ∙ ap (λ (r : Rect). r ∷ boxes_by f (from s at n (k + 1))) (sym e)
+  pub boxes_next : (k : ℕ) {b : Rect} → k < n → b ≡ f (glyph_at s (at + 45 * k)) → map f (from s at n k) ≡ (b ∷ []) ++ map f (from s at n (k + 1))
+  boxes_next k h e = ap (map f) (from_next s at n k h) ∙ ap (λ (r : Rect). r ∷ map f (from s at n (k + 1))) (sym e)
 
 -- ---- what changed, from two places on
 module _ (f g : Glyph → Rect) (s : List ℕ) where
-  pub changed_next : (a m b n k : ℕ) → k < m → k < n → changed_by f g (from s a m k) (from s b n k) ≡ changed_at f g (glyph_at s (a + 45 * k)) (glyph_at s (b + 45 * k)) ++ changed_by f g (from s a m (k + 1)) (from s b n (k + 1))
-  unfolding changed_by
-  changed_next a m b n k h l = λ i. changed_by f g (from_next s a m k h i) (from_next s b n k l i)
+  pub changed_next : (a m b n k : ℕ) → k < m → k < n → changed_glyphs f g (from s a m k) (from s b n k) ≡ changed_at f g (glyph_at s (a + 45 * k)) (glyph_at s (b + 45 * k)) ++ changed_glyphs f g (from s a m (k + 1)) (from s b n (k + 1))
+  unfolding changed_glyphs
+  changed_next a m b n k h l = λ i. changed_glyphs f g (from_next s a m k h i) (from_next s b n k l i)
 
   -- from the last common place on, c
-  pub changed_rest : (a m b n k c : ℕ) → k ≡ c → (m ≤ c) ⊎ (n ≤ c) → changed_by f g (from s a m k) (from s b n k) ≡ boxes_by f (from s a m c) ++ boxes_by g (from s b n c)
-  unfolding changed_by boxes_by
+  pub changed_rest : (a m b n k c : ℕ) → k ≡ c → (m ≤ c) ⊎ (n ≤ c) → changed_glyphs f g (from s a m k) (from s b n k) ≡ map f (from s a m c) ++ map g (from s b n c)
+  unfolding changed_glyphs
   changed_rest a m b n k c e h =
-      ap (λ (z : ℕ). changed_by f g (from s a m z) (from s b n z)) e
+      ap (λ (z : ℕ). changed_glyphs f g (from s a m z) (from s b n z)) e
       ∙ go (from s a m c) (from s b n c) (⊎_elim (λ z. inl (from_end s a m c z)) (λ z. inr (from_end s b n c z)) h)
     where
-      go : (x y : List Glyph) → (x ≡ []) ⊎ (y ≡ []) → changed_by f g x y ≡ boxes_by f x ++ boxes_by g y
+      go : (x y : List Glyph) → (x ≡ []) ⊎ (y ≡ []) → changed_glyphs f g x y ≡ map f x ++ map g y
       go [] y e = refl
-      go (v ∷ x) [] e = sym (append-nil (boxes_by f (v ∷ x)))
+      go (v ∷ x) [] e = sym (append-nil (map f (v ∷ x)))
       go (v ∷ x) (w ∷ y) (inl e) = absurd (cc)
       go (v ∷ x) (w ∷ y) (inr e) = absurd (cc)
 

@@ -1,10 +1,7 @@
 -- Runs of glyphs in the strip, and what becomes of a glyph's box in one: by its transform and clip number, as by a command's own transform and clips.
-use Rattle.std.specs.Prelude.{List, [], ◌∷◌, ◌++◌, ℕ, ◌+◌, ◌*◌, ◌≤◌, ◌<◌, length, Float}
-use Rattle.lists.specs.Pick.{pick}
+use Rattle.std.specs.Prelude.{List, ℕ, ◌+◌, ◌*◌, ◌≤◌, ◌<◌, length, Float}
 use Rattle.geometry.specs.declared.Rect.{Rect}
-use Rattle.geometry.specs.Boxes.{union}
 use Rattle.commands.specs.declared.Glyph.{Glyph}
-use Rattle.operand_equality.specs.Operands.{same_glyph}
 use Rattle.display_list.specs.Lists.{window_glyph_bounds}
 use Rattle.strip_format.specs.Format.{glyphs_from}
 use Rattle.glyph_changes.specs.declared.Run.{Run}

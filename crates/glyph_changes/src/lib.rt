@@ -2,11 +2,12 @@
 // compared or placed is read, from the strip where it stands.
 #![tactic(auto)]
 
-ghost use Rattle.std.specs.Prelude.{◌≡◌, ◌+◌, ◌-◌, ◌*◌, ◌^◌, ◌≤◌, ◌<◌, length};
+ghost use Rattle.std.specs.Prelude.{◌≡◌, map, ◌+◌, ◌-◌, ◌*◌, ◌^◌, ◌≤◌, ◌<◌, length};
 ghost use Rattle.operand_equality.specs.Operands.{same_glyph, equal_glyph, equal_glyphs};
+ghost use Rattle.changes.specs.Changes.{changed_at, changed_glyphs};
 ghost use Rattle.strip_format.specs.Format.{glyph_at, glyphs_from};
 ghost use Rattle.rect_list.specs.Rects.{AddedTo};
-ghost use Rattle.glyph_changes.specs.Runs.{glyphs_of, Inside, most_boxes, windowed, boxes_by, changed_at, changed_by};
+ghost use Rattle.glyph_changes.specs.Runs.{glyphs_of, Inside, most_boxes, windowed};
 
 use affine::Affine;
 use geometry::Rect;
@@ -80,7 +81,7 @@ fn window_at(s: &[u8], boxes: &[f64], run: Run, at: usize) -> Rect
 // Appends the boxes of a run's glyphs from the one of a number on. By number, which gives the offset in the strip of each.
 fn append_glyph_bounds(s: &[u8], boxes: &[f64], run: Run, first: usize, rects: &mut RectList)
     requires { (8 * run.clip ≤ length boxes.now) × Inside s.now run.glyphs run.count × (first ≤ run.count) × (rects.old.count + (run.count - first) < 2 ^ 63) }
-    ensures { AddedTo (run.count - first) rects.old (boxes_by (windowed boxes.now run) (glyphs_from s.now (run.glyphs + 45 * first) (run.count - first))) rects.new }
+    ensures { AddedTo (run.count - first) rects.old (map (windowed boxes.now run) (glyphs_from s.now (run.glyphs + 45 * first) (run.count - first))) rects.new }
 {
     for k in first..run.count as usize {
         rects.push(window_at(s, boxes, run, run.glyphs + GLYPH_LENGTH * k));
@@ -114,7 +115,7 @@ fn append_changed(
 // differently the union of both boxes, and then the boxes of the glyphs that only one of them has. By number, which gives both offsets.
 pub fn changed_glyph_bounds(s: &[u8], boxes: &[f64], old: Run, new: Run, rects: &mut RectList)
     requires { (8 * old.clip ≤ length boxes.now) × (8 * new.clip ≤ length boxes.now) × Inside s.now old.glyphs old.count × Inside s.now new.glyphs new.count × (rects.old.count + most_boxes < 2 ^ 63) }
-    ensures { AddedTo most_boxes rects.old (changed_by (windowed boxes.now old) (windowed boxes.now new) (glyphs_of s.now old) (glyphs_of s.now new)) rects.new }
+    ensures { AddedTo most_boxes rects.old (changed_glyphs (windowed boxes.now old) (windowed boxes.now new) (glyphs_of s.now old) (glyphs_of s.now new)) rects.new }
 {
     let common = old.count.min(new.count) as usize;
     for k in 0..common {

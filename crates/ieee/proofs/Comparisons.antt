@@ -12,7 +12,8 @@ use Rattle.lists.specs.Places.{ByPlace}
 use Rattle.lists.proofs.Places.{place_append, place_split, place_with}
 use Rattle.lists.proofs.Relations.{Per, Passes, per_places}
 use Rattle.ieee.proofs.Rank.{ordered, ordered_not_nan}
-use Rattle.ieee.proofs.Values.{Same, same_value, value_same}
+use Rattle.ieee.specs.Values.{Same}
+use Rattle.ieee.proofs.Values.{same_value, value_same}
 use Rattle.ieee.proofs.Equals.{per_float}
 
 -- two lists of floats, equal by value

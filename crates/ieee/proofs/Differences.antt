@@ -7,7 +7,8 @@ use lib.Dec.{ltb}
 use lib.Ieee.{Float, nan, inf, fin, binary64, up, down, round, sum, neg, add, sub, eq, of_bits}
 use lib.Ieee.Scale.{finite}
 use borrow.Author.Tests.{le-ltb}
-use Rattle.ieee.proofs.Values.{zero_of, round_zero}
+use Rattle.ieee.specs.Values.{zero_of}
+use Rattle.ieee.proofs.Values.{round_zero}
 
 -- 0 for yes, a NaN for no
 abbrev pub told : Bool → Float

@@ -13,21 +13,11 @@ use lib.Pow.{pow-lt}
 use lib.Ieee.Fits.{and_r, and_i, neg-fits}
 use lib.Ieee.Bits.{of_bits-to_bits}
 use lib.Ieee.Scale.{finite}
+use Rattle.ieee.specs.Values.{zero_of, Zero, Same}
 use Rattle.ieee.proofs.Rank.{middle, scale, rank, ordered, ordered_fits, not_nan, middle_pos, magnitude_lt, scale_pos, rank_eq}
 use Rattle.ieee.proofs.Patterns.{pattern, bits_lt, neg_rank}
 use Rattle.lists.proofs.Picks.{le_or_lt}
 use lib.Ieee.{Float, nan, inf, fin, binary64, up, down, unlike, nearest, size, span, climb, units, odd, round, sum, add, sub, mul, div, below, lt, eq, fits, neg, of_bits, to_bits}
-
--- a zero of either sign
-abbrev pub zero_of : Bool → Float
-zero_of s = fin s 0 (pos 0)
-
-abbrev pub Zero : Float → Type 0
-Zero x = (s : Bool) × (x ≡ zero_of s)
-
--- the same, but for the sign of a zero
-abbrev pub Same : Float → Float → Type 0
-Same x y = (x ≡ y) ⊎ (Zero x × Zero y)
 
 pub same_trans : (x y z : Float) → Same x y → Same y z → Same x z
 same_trans x y z (inl p) (inl q) = inl (p ∙ q)

@@ -87,13 +87,13 @@ module _ {A : Type 0} (R : A → A → Type 0) where
   place_with P S f (a ∷ l) [] p q h = h
   place_with P S f (a ∷ l) (b ∷ m) p q h = (f a b p.0 q.0 h.0, place_with P S f l m p.1 q.1 h.1)
 
-  -- between the values of a function
-  pub place_mapped : {B : Type 0} (f : B → A) (l m : List B) → ByPlace (λ x y. R (f x) (f y)) l m → ByPlace R (map f l) (map f m)
+  -- between the values of two functions
+  pub place_mapped : {B : Type 0} (f g : B → A) (l m : List B) → ByPlace (λ x y. R (f x) (g y)) l m → ByPlace R (map f l) (map g m)
   unfolding ByPlace
-  place_mapped f [] [] h = h
-  place_mapped f [] (y ∷ m) h = h
-  place_mapped f (x ∷ l) [] h = h
-  place_mapped f (x ∷ l) (y ∷ m) h = (h.0, place_mapped f l m h.1)
+  place_mapped f g [] [] h = h
+  place_mapped f g [] (y ∷ m) h = h
+  place_mapped f g (x ∷ l) [] h = h
+  place_mapped f g (x ∷ l) (y ∷ m) h = (h.0, place_mapped f g l m h.1)
 
 -- equal lists are equal at each place, and the other way round
 module _ {A : Type 0} where

@@ -38,7 +38,7 @@ pub draft_same : (w h b : ℕ) (rs ss : List Rect) (cs ds : List Command) → Sa
 draft_same w h b rs ss cs ds p m = record {
   rects = p;
   regions = schedule_same w h b rs ss p;
-  words = index_words_same b (row_count h b) (map bounds cs) (map bounds ds) (place_mapped SameBox bounds cs ds (place_map Matched (λ c d. SameBox (bounds c) (bounds d)) matched_bounds cs ds m));
+  words = index_words_same b (row_count h b) (map bounds cs) (map bounds ds) (place_mapped SameBox bounds bounds cs ds (place_map Matched (λ c d. SameBox (bounds c) (bounds d)) matched_bounds cs ds m));
   emitted = place_length Matched cs ds m;
 }
 

@@ -16,7 +16,7 @@ use Rattle.strip.specs.Reading.{read_strip, commands_of}
 use Rattle.strip_laws.specs.Limits.{Within, WhereRead}
 use Rattle.strip_laws.proofs.Limits.{strip_within}
 use Rattle.frame.specs.declared.Strips.{Strips}
-use Rattle.frame.specs.Frame.{first_of, both_of, with_old, then_new, then_strips, then_end, ended}
+use Rattle.frame.specs.Frame.{header_length, first_of, both_of, with_old, then_new, then_strips, then_end, ended}
 use Rattle.stored_lists.specs.Stored.{commands_in}
 use Rattle.recording.specs.Recorded.{Space, SameLengths, Room, Holds, Records, RecordsFirst, Two, RecordsNew, RecordsBoth}
 use Rattle.recording.proofs.Lists.{lists_alike}
@@ -54,9 +54,9 @@ read_small s at t e = let w : WhereRead Within (Ok t) = subst (WhereRead Within)
 -- ---- the first strip, recorded from nothing
 record First-strip (s : List ℕ) (y : Space) (t : Cursor) : Type 0 where
   held : Holds t.clips t.commands s y
-  listed : commands_in s y.boxes y.below y.items 0 t.commands ≡ commands_of s 12
+  listed : commands_in s y.boxes y.below y.items 0 t.commands ≡ commands_of s header_length
 
-first_strip : (s : List ℕ) (z y : Space) (t : Cursor) → SameLengths z y → Records s 12 0 0 z y (Ok t) → Room t.clips t.commands y → First-strip s y t
+first_strip : (s : List ℕ) (z y : Space) (t : Cursor) → SameLengths z y → Records s header_length 0 0 z y (Ok t) → Room t.clips t.commands y → First-strip s y t
 first_strip s z y t l h r =
     let k = h (holds_none s z) (room_less (omega arith) (omega arith) (room_before l r)) in
     let c : 0 + t.clips ≡ t.clips = omega arith in
@@ -81,7 +81,7 @@ end_is s t new e = pick_cases Same (ltb t.at (length s)) (refused TrailingByte t
     Same x = (n : Cursor) → Ok n ≡ x → t ≡ n
 
 -- ---- the strip of a first frame
-module _ (s : List ℕ) (z y : Space) (r : Result Cursor Refusal) (a : r ≡ read_strip s 12) (l : SameLengths z y) (h : Records s 12 0 0 z y r) where
+module _ (s : List ℕ) (z y : Space) (r : Result Cursor Refusal) (a : r ≡ read_strip s header_length) (l : SameLengths z y) (h : Records s header_length 0 0 z y r) where
   abbrev Firsts : Result Cursor Refusal → Type 0
   Firsts f = (f ≡ first_of s) × (SameLengths z y × RecordsFirst s y f)
 
@@ -91,7 +91,7 @@ module _ (s : List ℕ) (z y : Space) (r : Result Cursor Refusal) (a : r ≡ rea
     first_read f e = (e ∙ ap (then_end s) (sym q ∙ a), (l, records f e))
       where
         records : (f : Result Cursor Refusal) → f ≡ ended s t → RecordsFirst s y f
-        records (Ok new) e = λ u. let v = subst (λ (c : Cursor). First-strip s y c) (end_is s t new e) (first_strip s z y t l (subst (Records s 12 0 0 z y) q h) (subst (λ (c : Cursor). Room c.clips c.commands y) (sym (end_is s t new e)) u)) in (v.held, v.listed)
+        records (Ok new) e = λ u. let v = subst (λ (c : Cursor). First-strip s y c) (end_is s t new e) (first_strip s z y t l (subst (Records s header_length 0 0 z y) q h) (subst (λ (c : Cursor). Room c.clips c.commands y) (sym (end_is s t new e)) u)) in (v.held, v.listed)
         records (Err why) e = tt
 
   pub first_refused : (why : Refusal) → r ≡ Err why → Firsts (Err why)
@@ -123,12 +123,12 @@ old_kept : (old : Cursor) (x : Result Cursor Refusal) → old_of (with_old old x
 old_kept old (Ok new) = refl
 old_kept old (Err why) = refl
 
-module _ (s : List ℕ) (x z : Space) (r : Result Cursor Refusal) (a : r ≡ read_strip s 12) (l : SameLengths x z) (h : Records s 12 0 0 x z r) where
+module _ (s : List ℕ) (x z : Space) (r : Result Cursor Refusal) (a : r ≡ read_strip s header_length) (l : SameLengths x z) (h : Records s header_length 0 0 x z r) where
   abbrev Boths : Space → Result Strips Refusal → Type 0
   Boths y f = (f ≡ both_of s) × (SameLengths x y × RecordsBoth s y f)
 
   pub both_small : (old : Cursor) → r ≡ Ok old → (old.clips ≤ 4096) × (old.commands ≤ 4096)
-  both_small old q = read_small s 12 old (sym q ∙ a)
+  both_small old q = read_small s header_length old (sym q ∙ a)
 
   pub both_new : (y : Space) (old : Cursor) → r ≡ Ok old → (f : Result Strips Refusal) → f ≡ then_new s old (read_strip s old.at) → SameLengths z y → RecordsNew s old z y f → Boths y f
   unfolding both_of
@@ -136,7 +136,7 @@ module _ (s : List ℕ) (x z : Space) (r : Result Cursor Refusal) (a : r ≡ rea
     where
       two : (new : Cursor) → RecordsNew s old z y (Ok (record { old = old; new = new })) → Room (old.clips + new.clips) (old.commands + new.commands) y → Two s old new y
       two new c u =
-          let f = first_strip s x z old l (subst (Records s 12 0 0 x z) q h) (room_less (omega arith) (omega arith) (room_before k u)) in
+          let f = first_strip s x z old l (subst (Records s header_length 0 0 x z) q h) (room_less (omega arith) (omega arith) (room_before k u)) in
           let n = c f.held (room_before k u) in
           record {
             held = n.held;

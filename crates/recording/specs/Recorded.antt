@@ -6,6 +6,7 @@ use Rattle.strip.specs.declared.Cursor.{Cursor}
 use Rattle.strip.specs.Reading.{commands_of}
 use Rattle.strip_laws.specs.Limits.{WhereRead}
 use Rattle.frame.specs.declared.Strips.{Strips}
+use Rattle.frame.specs.Frame.{header_length}
 use Rattle.stored_lists.specs.Stored.{command_in, commands_in, Stored}
 
 -- the lent space of display lists: the clips' boxes and the numbers below them, the commands' words and boxes

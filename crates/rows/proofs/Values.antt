@@ -2,7 +2,7 @@
 use mathlib.Core.Path.{◌≡◌, ap}
 use Prim.Native.Nat.{ℕ, ◌-◌, ◌/◌, min}
 use lib.Ieee.{Float}
-use Rattle.ieee.proofs.Values.{Same}
+use Rattle.ieee.specs.Values.{Same}
 use Rattle.floats.proofs.Values.{floor_same, next_down_same}
 use Rattle.rows.specs.Rows.{row_of, final_row}
 

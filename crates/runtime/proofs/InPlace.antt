@@ -37,10 +37,10 @@ use Rattle.std.specs.Prelude.{Some}
 use Rattle.strip_format.specs.declared.Kind.TheVariants.{Run as RunKind}
 use Rattle.command_bounds.specs.Kinds.{kind_at}
 use Rattle.command_bounds.proofs.Standing.{stands, is_run}
-use Rattle.changes.specs.Changes.{changed_bounds}
+use Rattle.changes.specs.Changes.{changed_at, changed_glyphs, changed_bounds}
 use Rattle.stored_lists.specs.Stored.{command_in}
 use Rattle.glyph_changes.specs.declared.Run.{Run}
-use Rattle.glyph_changes.specs.Runs.{glyphs_of, Inside, windowed, changed_at, changed_by, boxes_by}
+use Rattle.glyph_changes.specs.Runs.{glyphs_of, Inside, windowed}
 use Rattle.runtime.specs.declared.PlacedCommand.{PlacedCommand}
 use Rattle.runtime.specs.Placed.{Both, placed_at, stands_for, whole_length, Pair, apart, SameRun, RunPair}
 use Rattle.runtime.specs.Placed as Placed
@@ -106,8 +106,8 @@ module _ (s : List ℕ) (p q : ℕ) where
       (sym (λ i. fills_alike (e i) (f i)) ∙ run_self.0, sym (λ i. runs_alike (e i) (f i)) ∙ run_self.1)
 
 -- equal glyphs leave nothing to paint
-none_changed : (f g : Glyph → Rect) (xs ys : List Glyph) → equal_glyphs xs ys ≡ true → changed_by f g xs ys ≡ []
-unfolding equal_glyphs equal_glyph changed_by changed_at boxes_by
+none_changed : (f g : Glyph → Rect) (xs ys : List Glyph) → equal_glyphs xs ys ≡ true → changed_glyphs f g xs ys ≡ []
+unfolding equal_glyphs equal_glyph changed_at changed_glyphs
 none_changed f g [] [] e = refl
 none_changed f g [] (y ∷ ys) e = absurd (true≢false (sym e))
 none_changed f g (x ∷ xs) [] e = absurd (true≢false (sym e))
@@ -128,16 +128,16 @@ module _ (s : List ℕ) (bs : List Float) (ns : List ℕ) (a b : PlacedCommand) 
       let t = same_drawing c.draw d.draw in
       (and_parts t _ (and_parts (t && equal_glyphs c.glyphs d.glyphs) (same_clips c.clips d.clips) e).0).1
 
-  case_glyphs : changed_by (windowed bs a.run) (windowed bs b.run) c.glyphs d.glyphs ≡ changed_bounds c d
+  case_glyphs : changed_glyphs (windowed bs a.run) (windowed bs b.run) c.glyphs d.glyphs ≡ changed_bounds c d
   case_glyphs = go (equal c d) refl
     where
-      go : (t : Bool) → equal c d ≡ t → changed_by (windowed bs a.run) (windowed bs b.run) c.glyphs d.glyphs ≡ changed_bounds c d
+      go : (t : Bool) → equal c d ≡ t → changed_glyphs (windowed bs a.run) (windowed bs b.run) c.glyphs d.glyphs ≡ changed_bounds c d
       go true e = none_changed _ _ c.glyphs d.glyphs (glyphs_equal e) ∙ case_equal s bs ns a b w (sym e) refl
       go false e = case_runs s bs ns a b w (sym e) refl (sym x.0) refl (sym (and_from _ _ x.1 k)) refl
 
 -- ---- at two places of a list: what changed in its glyphs
 module _ (i j : ℕ) (s : List ℕ) (bs : List Float) (ns is : List ℕ) (ibs : List Float) (w : Both i j s bs ns is ibs) where
-  pub case_run : SameRun s (offset_at is i) (offset_at is j) → {t : Bool} → t ≡ same_clips (chain bs ns (clip_number_at is i)) (chain bs ns (clip_number_at is j)) → t ≡ true → changed_by (windowed bs (Placed.run_at s is i)) (windowed bs (Placed.run_at s is j)) (glyphs_of s (Placed.run_at s is i)) (glyphs_of s (Placed.run_at s is j)) ≡ changed_bounds (command_in s bs ns is i) (command_in s bs ns is j)
+  pub case_run : SameRun s (offset_at is i) (offset_at is j) → {t : Bool} → t ≡ same_clips (chain bs ns (clip_number_at is i)) (chain bs ns (clip_number_at is j)) → t ≡ true → changed_glyphs (windowed bs (Placed.run_at s is i)) (windowed bs (Placed.run_at s is j)) (glyphs_of s (Placed.run_at s is i)) (glyphs_of s (Placed.run_at s is j)) ≡ changed_bounds (command_in s bs ns is i) (command_in s bs ns is j)
   unfolding placed_at
   case_run r v e =
       case_glyphs s bs ns (placed_at s is ibs i) (placed_at s is ibs j) (pair_of i j s bs ns is ibs w refl refl) (alike_run s (offset_at is i) (offset_at is j) r) (sym v ∙ e)
@@ -164,5 +164,5 @@ module _ (s : List ℕ) (bs : List Float) (is : List ℕ) (i j : ℕ) (w : RunPa
     new_run : read_at j ≡ Placed.run_at s is j
     new_run = λ x. record { glyphs = offset_at is j + 103; count = other_counts x; transform = (v ∙ ap transform_of w.same.2) x; clip = clip_number_at is j }
 
-    pub runs_changed : changed_by (windowed bs (read_at i)) (windowed bs (read_at j)) (glyphs_of s (read_at i)) (glyphs_of s (read_at j)) ≡ changed_by (windowed bs (Placed.run_at s is i)) (windowed bs (Placed.run_at s is j)) (glyphs_of s (Placed.run_at s is i)) (glyphs_of s (Placed.run_at s is j))
-    runs_changed = λ x. changed_by (windowed bs (old_run x)) (windowed bs (new_run x)) (glyphs_of s (old_run x)) (glyphs_of s (new_run x))
+    pub runs_changed : changed_glyphs (windowed bs (read_at i)) (windowed bs (read_at j)) (glyphs_of s (read_at i)) (glyphs_of s (read_at j)) ≡ changed_glyphs (windowed bs (Placed.run_at s is i)) (windowed bs (Placed.run_at s is j)) (glyphs_of s (Placed.run_at s is i)) (glyphs_of s (Placed.run_at s is j))
+    runs_changed = λ x. changed_glyphs (windowed bs (old_run x)) (windowed bs (new_run x)) (glyphs_of s (old_run x)) (glyphs_of s (new_run x))

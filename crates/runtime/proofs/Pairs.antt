@@ -16,12 +16,11 @@ use Rattle.differences.specs.Differences.{rect_symmetric_difference}
 use Rattle.clips.specs.Chains.{Clips}
 use Rattle.display_list.specs.Lists.{offset_at, window_glyph_bounds}
 use Rattle.display_list.proofs.Holding.{glyph_bounds_is}
-use Rattle.changes.specs.Changes.{changed_bounds}
+use Rattle.changes.specs.Changes.{changed_glyphs, changed_bounds}
 use Rattle.stored_lists.specs.Stored.{Stored, command_in}
-use Rattle.glyph_changes.specs.Runs.{glyphs_of, windowed, changed_by}
+use Rattle.glyph_changes.specs.Runs.{glyphs_of, windowed}
 use Rattle.runtime.specs.declared.PlacedCommand.{PlacedCommand}
 use Rattle.runtime.specs.Placed.{Both, placed_at, stands_for, Placed, Pair}
-use Rattle.runtime.proofs.Changes.{glyphs_are}
 
 -- ---- a place of the list
 module _ (n : ℕ) (s : List ℕ) (bs : List Float) (ns is : List ℕ) (ibs : List Float) (w : Stored n s bs ns is ibs) (i : ℕ) (h : i < n) where
@@ -73,11 +72,10 @@ module _ (s : List ℕ) (bs : List Float) (ns : List ℕ) (a b : PlacedCommand) 
       case_fills f = (λ k. rect_symmetric_difference (w.old.box k) (w.new.box k)) ∙ sym (pick_false _ _ _ (sym p ∙ off) ∙ pick_true _ _ _ (sym q ∙ f))
 
       module _ (off2 : u ≡ false) {v : Bool} (r : v ≡ (runs_alike a.command b.command && same_clips c.clips d.clips)) where
-        pub case_runs : v ≡ true → changed_by (windowed bs a.run) (windowed bs b.run) c.glyphs d.glyphs ≡ changed_bounds c d
+        pub case_runs : v ≡ true → changed_glyphs (windowed bs a.run) (windowed bs b.run) c.glyphs d.glyphs ≡ changed_bounds c d
         unfolding changed_bounds runs_alike_clipped
         case_runs g =
-            (λ k. changed_by (glyph_is w.used s bs ns a w.clips w.old k) (glyph_is w.used s bs ns b w.clips w.new k) c.glyphs d.glyphs)
-            ∙ glyphs_are c d c.glyphs d.glyphs
+            (λ k. changed_glyphs (glyph_is w.used s bs ns a w.clips w.old k) (glyph_is w.used s bs ns b w.clips w.new k) c.glyphs d.glyphs)
             ∙ sym (pick_false _ _ _ (sym p ∙ off) ∙ pick_false _ _ _ (sym q ∙ off2) ∙ pick_true _ _ _ (sym r ∙ g))
 
         pub case_else : v ≡ false → {x : Rect} → x ≡ union a.bounds b.bounds → (x ∷ []) ≡ changed_bounds c d

@@ -1,8 +1,7 @@
 -- Commands of a list in lent space, decoded to be compared.
-use Rattle.std.specs.Prelude.{◌≡◌, Bool, true, false, List, [], ◌∷◌, ℕ, zero, suc, ◌+◌, ◌*◌, ◌≤◌, ◌<◌, eqb, length, get_or, Some, Float}
+use Rattle.std.specs.Prelude.{◌≡◌, Bool, true, false, List, ℕ, ◌+◌, ◌*◌, ◌≤◌, ◌<◌, eqb, length, get_or, Some, Float}
 use Rattle.lists.specs.Pick.{pick}
 use Rattle.little_endian.specs.Words.{u16_at}
-use Rattle.geometry.specs.declared.Rect.{Rect}
 use Rattle.commands.specs.Bounds.{Command, transform_of, glyph_count, bounds}
 use Rattle.operand_equality.specs.Operands.{same_clips}
 use Rattle.clips.specs.Chains.{chain, Clips}
@@ -77,8 +76,3 @@ pub record RunPair (s : List ℕ) (bs : List Float) (is : List ℕ) (i j : ℕ) 
   pub clips : (8 * clip_number_at is i ≤ length bs) × (8 * clip_number_at is j ≤ length bs)
   pub glyphs : Inside s (run_at s is i).glyphs (run_at s is i).count
   pub other : Inside s (run_at s is j).glyphs (run_at s is j).count
-
--- ---- the boxes of n commands from place i on
-unfoldable pub boxes_in : List Float → ℕ → ℕ → List Rect
-boxes_in ibs i zero = []
-boxes_in ibs i (suc n) = box_at ibs i ∷ boxes_in ibs (suc i) n

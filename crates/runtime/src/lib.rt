@@ -3,7 +3,7 @@
 // one another (`Rooted`), is asked of callers: the slices are as they were lent, and any five make a `ListSpace`.
 #![tactic(auto)]
 
-ghost use Rattle.std.specs.Prelude.{◌≡◌, true, ◌&&◌, [], ◌∷◌, ◌+◌, ◌*◌, ◌^◌, ◌≤◌, ◌<◌, length};
+ghost use Rattle.std.specs.Prelude.{◌≡◌, true, ◌&&◌, [], ◌∷◌, ◌+◌, ◌*◌, ◌^◌, ◌≤◌, ◌<◌, length, drop};
 ghost use Rattle.geometry.specs.Boxes.{union};
 ghost use Rattle.commands.specs.Bounds.{glyph_count};
 ghost use Rattle.operand_equality.specs.Operands.{same_clips};
@@ -12,14 +12,14 @@ ghost use Rattle.equality.specs.Drawings as Drawings;
 ghost use Rattle.differences.specs.Differences.{rect_symmetric_difference};
 ghost use Rattle.display_list.specs.Lists.{offset_at, clip_number_at};
 ghost use Rattle.strip.specs.Reading.{command_of};
-ghost use Rattle.changes.specs.Changes.{changed_bounds, diff_dirty};
+ghost use Rattle.changes.specs.Changes.{changed_glyphs, changed_bounds, diff_dirty};
 ghost use Rattle.stored_lists.specs.Stored.{Stored, command_in, commands_in};
 ghost use Rattle.rect_list.specs.Rects.{AddedTo, Listed};
-ghost use Rattle.glyph_changes.specs.Runs.{most_boxes, windowed, changed_by, glyphs_of};
+ghost use Rattle.glyph_changes.specs.Runs.{most_boxes, windowed, glyphs_of};
 ghost use Rattle.runtime.specs.Placed as Placed;
-ghost use Rattle.runtime.specs.Placed.{Both, placed_at, stands_for, Standing, whole_length, Pair, AlikeClips, SameRun, RunPair, boxes_in};
+ghost use Rattle.runtime.specs.Placed.{Both, placed_at, stands_for, Standing, whole_length, Pair, AlikeClips, SameRun, RunPair};
 ghost use Rattle.runtime.specs.Work.{work_of};
-ghost use Rattle.rect_words.specs.Words.{box_at};
+ghost use Rattle.rect_words.specs.Words.{box_at, boxes_to};
 
 use commands::DrawCommand;
 use geometry::Rect;
@@ -230,7 +230,7 @@ impl ListSpace<'_> {
     // Appends the boxes of what changed in the glyphs of a RUN that stands at both places: its operands are read once.
     fn changed_run(self, i: usize, j: usize, rects: &mut RectList)
         requires { RunPair self.bytes.now self.boxes.now self.items.now i j × (rects.old.count + most_boxes < 2 ^ 63) }
-        ensures { AddedTo most_boxes rects.old (changed_by (windowed self.entry.boxes.now (Placed.run_at self.entry.bytes.now self.entry.items.now i)) (windowed self.entry.boxes.now (Placed.run_at self.entry.bytes.now self.entry.items.now j)) (glyphs_of self.entry.bytes.now (Placed.run_at self.entry.bytes.now self.entry.items.now i)) (glyphs_of self.entry.bytes.now (Placed.run_at self.entry.bytes.now self.entry.items.now j))) rects.new }
+        ensures { AddedTo most_boxes rects.old (changed_glyphs (windowed self.entry.boxes.now (Placed.run_at self.entry.bytes.now self.entry.items.now i)) (windowed self.entry.boxes.now (Placed.run_at self.entry.bytes.now self.entry.items.now j)) (glyphs_of self.entry.bytes.now (Placed.run_at self.entry.bytes.now self.entry.items.now i)) (glyphs_of self.entry.bytes.now (Placed.run_at self.entry.bytes.now self.entry.items.now j))) rects.new }
     {
         let at = self.offset_at(i);
         let other = self.offset_at(j);
@@ -278,7 +278,7 @@ impl ListSpace<'_> {
     // Appends the boxes of the commands from a place on.
     fn append_bounds(self, first: usize, count: usize, rects: &mut RectList)
         requires { (4 * (first + count) ≤ length self.item_boxes.now) × (rects.old.count + count < 2 ^ 63) }
-        ensures { AddedTo count rects.old (boxes_in self.entry.item_boxes.now first count) rects.new }
+        ensures { AddedTo count rects.old (boxes_to (drop (4 * first) self.entry.item_boxes.now) count) rects.new }
     {
         let boxes = &self.item_boxes[4 * first..4 * (first + count)];
         for edges in boxes.as_chunks::<4>().0 {

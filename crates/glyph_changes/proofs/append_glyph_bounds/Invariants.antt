@@ -1,10 +1,11 @@
+use mathlib.Core.List.{map}
 use Prim.Native.Nat.{◌+◌, ◌-◌, ◌≤◌}
 use Rattle.rect_list.proofs.Turns.{GoingTo}
-use Rattle.glyph_changes.specs.Runs.{windowed, boxes_by}
+use Rattle.glyph_changes.specs.Runs.{windowed}
 use Rattle.glyph_changes.proofs.Places.{from}
 use Rattle.glyph_changes.proofs.append_glyph_bounds.Given as goal
 
 abbrev pub invariant-loop-k : goal.invariant-loop-k
 invariant-loop-k l =
     (l.first ≤ l.k) × (l.k ≤ l.run.count) × (l.rects.count + (l.run.count - l.k) ≤ l.fn.rects.count + (l.run.count - l.first))
-    × GoingTo l.fn.rects (boxes_by (windowed l.boxes l.run) (from l.s l.run.glyphs l.run.count l.first)) l.rects (boxes_by (windowed l.boxes l.run) (from l.s l.run.glyphs l.run.count l.k))
+    × GoingTo l.fn.rects (map (windowed l.boxes l.run) (from l.s l.run.glyphs l.run.count l.first)) l.rects (map (windowed l.boxes l.run) (from l.s l.run.glyphs l.run.count l.k))
