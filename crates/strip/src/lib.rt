@@ -154,7 +154,7 @@ impl Cursor {
     fn unite(self, bounds: Rect) -> Rect
         ensures { result ≡ Steps.unite self bounds }
     {
-        if self.run <= self.at && self.at - self.run == layout::RUN_LENGTH {
+        if self.run <= self.at && self.at - self.run == layout::RUN_GLYPHS {
             return bounds;
         }
         self.united.union(bounds)

@@ -63,6 +63,8 @@ pub const RUN_COUNT: usize = 101;
 
 pub const RUN_LENGTH: usize = 103;
 
+pub const RUN_GLYPHS: usize = RUN_LENGTH;
+
 // GLYPH: id, x, y, box.
 pub const GLYPH_ID: usize = 1;
 
