@@ -10,6 +10,7 @@ use Rattle.affine.specs.Affines.{transform_rect_bbox, try_transform}
 use Rattle.commands.specs.declared.Glyph.{Glyph}
 use Rattle.commands.specs.declared.DrawCommand.{DrawCommand}
 use Rattle.commands.specs.declared.DrawCommand.TheVariants.{FillPath, StrokePath, GlyphRun, Scene}
+use Rattle.commands.specs.declared.Stroke.{Stroke}
 use Rattle.commands.specs.Strokes.{stroke_bounds_inflation}
 
 -- a drawing command with its operands, its glyphs (none but for a run) and the clip boxes that are open, oldest first
@@ -42,17 +43,21 @@ abbrev pub united : Rect → List Glyph → Rect
 united own [] = own
 united own (g ∷ gs) = united_from g.bounds gs
 
--- "FILL and SCENE transform their box. STROKE first inflates it"
+-- "STROKE first inflates it", by as much to each side as its operands say
+abbrev pub stroke_bounds : Rect → Stroke → Rect
+stroke_bounds b stroke = inflate b (stroke_bounds_inflation stroke) (stroke_bounds_inflation stroke)
+
+-- "FILL and SCENE transform their box."
 abbrev pub local_bounds : DrawCommand → List Glyph → Rect
 local_bounds (FillPath path b t brush) gs = b
-local_bounds (StrokePath path b t stroke brush) gs = inflate b (stroke_bounds_inflation stroke) (stroke_bounds_inflation stroke)
+local_bounds (StrokePath path b t stroke brush) gs = stroke_bounds b stroke
 local_bounds (GlyphRun font size t brush b n) gs = united b gs
 local_bounds (Scene content generation target t b) gs = b
 
 -- the same, where the union of the glyph boxes is at hand in place of the glyphs, as it is in code
 abbrev pub local_with : DrawCommand → Rect → Rect
 local_with (FillPath path b t brush) u = b
-local_with (StrokePath path b t stroke brush) u = inflate b (stroke_bounds_inflation stroke) (stroke_bounds_inflation stroke)
+local_with (StrokePath path b t stroke brush) u = stroke_bounds b stroke
 local_with (GlyphRun font size t brush b n) u = pick (eqb n 0) b u
 local_with (Scene content generation target t b) u = b
 

@@ -4,6 +4,7 @@ use Rattle.geometry.specs.declared.Rect.{Rect}
 use Rattle.commands.specs.declared.Glyph.{Glyph}
 use Rattle.display_list.specs.Lists.{window_glyph_bounds}
 use Rattle.strip_format.specs.Format.{glyphs_from}
+use Rattle.strip_format.specs.Layout as Layout
 use Rattle.glyph_changes.specs.declared.Run.{Run}
 
 -- the glyphs of a run
@@ -12,7 +13,7 @@ glyphs_of s r = glyphs_from s r.glyphs r.count
 
 -- n glyphs from an offset on, if there are any, stand whole in the strip
 abbrev pub Inside : List ℕ → ℕ → ℕ → Type 0
-Inside s at n = 0 < n → at + 45 * n ≤ length s
+Inside s at n = 0 < n → at + Layout.glyph_length * n ≤ length s
 
 -- what changed from one run to another is fewer boxes than this, since a count has 32 bits; so is what changed between any two commands
 abbrev pub most_boxes : ℕ

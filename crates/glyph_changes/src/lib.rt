@@ -6,13 +6,15 @@ ghost use Rattle.std.specs.Prelude.{◌≡◌, map, ◌+◌, ◌-◌, ◌*◌, �
 ghost use Rattle.operand_equality.specs.Operands.{same_glyph, equal_glyph, equal_glyphs};
 ghost use Rattle.changes.specs.Changes.{changed_at, changed_glyphs};
 ghost use Rattle.strip_format.specs.Format.{glyph_at, glyphs_from};
+ghost use Rattle.strip_format.specs.Layout as Layout;
 ghost use Rattle.rect_list.specs.Rects.{AddedTo};
 ghost use Rattle.glyph_changes.specs.Runs.{glyphs_of, Inside, most_boxes, windowed};
 
 use affine::Affine;
 use geometry::Rect;
 use rect_list::RectList;
-use strip_format::{GLYPH_LENGTH, rect_inside};
+use strip_format::layout::{GLYPH_BOX, GLYPH_ID, GLYPH_LENGTH, GLYPH_X, GLYPH_Y};
+use strip_format::rect_inside;
 
 // A run's glyphs: where the bytes of the first one begin, how many there are, and the transform and the clip
 // number, of which 0 is none as in `clips`, that bring them to the window.
@@ -27,22 +29,23 @@ pub struct Run {
 // Whether the glyphs at two offsets are painted alike, read where they stand. The number, in which most glyphs that
 // changed differ, comes first.
 fn glyph_eq(s: &[u8], p: usize, q: usize) -> bool
-    requires { (p + 45 ≤ length s.now) × (q + 45 ≤ length s.now) }
+    requires { (p + Layout.glyph_length ≤ length s.now) × (q + Layout.glyph_length ≤ length s.now) }
     ensures { result ≡ same_glyph (glyph_at s.now p) (glyph_at s.now q) }
 {
-    little_endian::u32_inside(s, p + 1) == little_endian::u32_inside(s, q + 1)
-        && little_endian::f32_at(s, p + 5) == little_endian::f32_at(s, q + 5)
-        && little_endian::f32_at(s, p + 9) == little_endian::f32_at(s, q + 9)
+    little_endian::u32_inside(s, p + GLYPH_ID) == little_endian::u32_inside(s, q + GLYPH_ID)
+        && little_endian::f32_at(s, p + GLYPH_X) == little_endian::f32_at(s, q + GLYPH_X)
+        && little_endian::f32_at(s, p + GLYPH_Y) == little_endian::f32_at(s, q + GLYPH_Y)
 }
 
 // Whether the glyphs at two offsets are equal, with equal boxes. Most have the same bytes, and then none is decoded.
 #[tactic(auto, unfolding(operand_equality::specs::Operands::equal_glyph))]
 fn equal_at(s: &[u8], p: usize, q: usize) -> bool
-    requires { (p + 45 ≤ length s.now) × (q + 45 ≤ length s.now) }
+    requires { (p + Layout.glyph_length ≤ length s.now) × (q + Layout.glyph_length ≤ length s.now) }
     ensures { result ≡ equal_glyph (glyph_at s.now p) (glyph_at s.now q) }
 {
     little_endian::same_bytes(s, p, q, GLYPH_LENGTH)
-        || (glyph_eq(s, p, q) && rect_inside(s, p + 13).same_edges(rect_inside(s, q + 13)))
+        || (glyph_eq(s, p, q)
+            && rect_inside(s, p + GLYPH_BOX).same_edges(rect_inside(s, q + GLYPH_BOX)))
 }
 
 // Whether two runs have equal glyphs, with equal boxes, and as many. By number, since both runs' glyphs stand in one strip, at offsets.
@@ -69,19 +72,19 @@ pub fn equal_glyphs(s: &[u8], old: Run, new: Run) -> bool
 // The box on the window of the glyph at an offset.
 #[tactic(auto, unfolding(crate::specs::Runs::windowed))]
 fn window_at(s: &[u8], boxes: &[f64], run: Run, at: usize) -> Rect
-    requires { (8 * run.clip ≤ length boxes.now) × (at + 45 ≤ length s.now) }
+    requires { (8 * run.clip ≤ length boxes.now) × (at + Layout.glyph_length ≤ length s.now) }
     ensures { result ≡ windowed boxes.now run (glyph_at s.now at) }
 {
     let number = run.clip;
     let transform = run.transform;
-    let bounds = rect_inside(s, at + 13);
+    let bounds = rect_inside(s, at + GLYPH_BOX);
     display_list::window_glyph_bounds(boxes, number, transform, bounds)
 }
 
 // Appends the boxes of a run's glyphs from the one of a number on. By number, which gives the offset in the strip of each.
 fn append_glyph_bounds(s: &[u8], boxes: &[f64], run: Run, first: usize, rects: &mut RectList)
     requires { (8 * run.clip ≤ length boxes.now) × Inside s.now run.glyphs run.count × (first ≤ run.count) × (rects.old.count + (run.count - first) < 2 ^ 63) }
-    ensures { AddedTo (run.count - first) rects.old (map (windowed boxes.now run) (glyphs_from s.now (run.glyphs + 45 * first) (run.count - first))) rects.new }
+    ensures { AddedTo (run.count - first) rects.old (map (windowed boxes.now run) (glyphs_from s.now (run.glyphs + Layout.glyph_length * first) (run.count - first))) rects.new }
 {
     for k in first..run.count as usize {
         rects.push(window_at(s, boxes, run, run.glyphs + GLYPH_LENGTH * k));
@@ -100,7 +103,7 @@ fn append_changed(
     other: usize,
     rects: &mut RectList,
 )
-    requires { (8 * old.clip ≤ length boxes.now) × (8 * new.clip ≤ length boxes.now) × (at + 45 ≤ length s.now) × (other + 45 ≤ length s.now) × (rects.old.count + 1 < 2 ^ 63) }
+    requires { (8 * old.clip ≤ length boxes.now) × (8 * new.clip ≤ length boxes.now) × (at + Layout.glyph_length ≤ length s.now) × (other + Layout.glyph_length ≤ length s.now) × (rects.old.count + 1 < 2 ^ 63) }
     ensures { AddedTo 1 rects.old (changed_at (windowed boxes.now old) (windowed boxes.now new) (glyph_at s.now at) (glyph_at s.now other)) rects.new }
 {
     if little_endian::same_bytes(s, at, other, GLYPH_LENGTH) || glyph_eq(s, at, other) {

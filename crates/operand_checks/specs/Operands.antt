@@ -7,6 +7,7 @@ use Rattle.lists.specs.Pick.{pick}
 use Rattle.refusals.specs.declared.Fault.{Fault}
 use Rattle.refusals.specs.declared.Fault.TheVariants.{UnknownCode, NotFinite}
 use Rattle.little_endian.specs.Words.{u32_at, u64_at}
+use Rattle.strip_format.specs.Layout as Layout
 
 -- the n f64 from an offset on are finite; an f32 is
 unfoldable pub finite_from : List ℕ → ℕ → ℕ → Bool
@@ -18,13 +19,14 @@ finite_f32 s at = finite (of_bits binary32 (u32_at s at))
 
 -- every float of a command, used or not
 unfoldable pub finite_stroke : List ℕ → ℕ → Bool
-finite_stroke s at = finite_from s (at + 9) 10 && (finite_from s (at + 97) 1 && finite_from s (at + 106) 1)
+finite_stroke s at =
+    finite_from s (at + Layout.fill_box) 10 && (finite_from s (at + Layout.stroke_style) 1 && finite_from s (at + Layout.stroke_miter_limit) 1)
 
 unfoldable pub finite_run : List ℕ → ℕ → Bool
-finite_run s at = finite_f32 s (at + 9) && (finite_from s (at + 13) 6 && finite_from s (at + 69) 4)
+finite_run s at = finite_f32 s (at + Layout.run_size) && (finite_from s (at + Layout.run_affine) 6 && finite_from s (at + Layout.run_box) 4)
 
 unfoldable pub finite_glyph : List ℕ → ℕ → Bool
-finite_glyph s at = finite_f32 s (at + 5) && (finite_f32 s (at + 9) && finite_from s (at + 13) 4)
+finite_glyph s at = finite_f32 s (at + Layout.glyph_x) && (finite_f32 s (at + Layout.glyph_y) && finite_from s (at + Layout.glyph_box) 4)
 
 -- "join or cap code above 2"
 unfoldable pub codes_fit : ℕ → ℕ → ℕ → Bool
@@ -37,12 +39,16 @@ floats_pass t = pick t (Ok tt) (Err NotFinite)
 -- whether the operands of a command with the byte b pass, or what is wrong with them
 unfoldable pub operands_at : List ℕ → ℕ → ℕ → Result (Unit {0}) Fault
 operands_at s at b =
-    pick (eqb b 1)
-    (floats_pass (finite_from s (at + 1) 4))
-    (pick (eqb b 3)
-    (floats_pass (finite_from s (at + 9) 10))
-    (pick (eqb b 4)
-    (pick (codes_fit (get_or s (at + 105) 0) (get_or s (at + 114) 0) (get_or s (at + 115) 0)) (floats_pass (finite_stroke s at)) (Err UnknownCode))
-    (pick (eqb b 5)
+    pick (eqb b Layout.clip_code)
+    (floats_pass (finite_from s (at + Layout.clip_box) 4))
+    (pick (eqb b Layout.fill_code)
+    (floats_pass (finite_from s (at + Layout.fill_box) 10))
+    (pick (eqb b Layout.stroke_code)
+    (pick (codes_fit (get_or s (at + Layout.stroke_join) 0) (get_or s (at + Layout.stroke_start_cap) 0) (get_or s (at + Layout.stroke_end_cap) 0))
+    (floats_pass (finite_stroke s at))
+    (Err UnknownCode))
+    (pick (eqb b Layout.run_code)
     (floats_pass (finite_run s at))
-    (pick (eqb b 6) (floats_pass (finite_glyph s at)) (pick (eqb b 7) (floats_pass (finite_from s (at + 25) 10)) (Ok tt))))))
+    (pick (eqb b Layout.glyph_code)
+    (floats_pass (finite_glyph s at))
+    (pick (eqb b Layout.scene_code) (floats_pass (finite_from s (at + Layout.scene_affine) 10)) (Ok tt))))))

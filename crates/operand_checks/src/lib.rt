@@ -3,11 +3,12 @@
 #![tactic(auto)]
 
 ghost use Rattle.std.specs.Prelude.{◌≡◌, ◌+◌, ◌*◌, ◌≤◌, ◌<◌, ◌^◌, length};
+ghost use Rattle.strip_format.specs.Layout as Layout;
 ghost use Rattle.strip_format.specs.Kinds.{code};
 ghost use Rattle.operand_checks.specs.Operands as Operands;
 
 use refusals::Fault;
-use strip_format::Kind;
+use strip_format::{Kind, layout};
 
 // Whether the n f64 from an offset on are finite: those that stand whole, and the one that the end cuts. Past it all are 0.
 fn finite_from(s: &[u8], at: usize, n: usize) -> bool
@@ -34,18 +35,22 @@ fn finite_f32(s: &[u8], at: usize) -> bool
 // Each kind's floats are the format's own row of places, with its own definition, here and below.
 #[tactic(auto, unfolding(crate::specs::Operands::finite_stroke))]
 fn finite_stroke(s: &[u8], at: usize) -> bool
-    requires { at + 124 < 2 ^ 64 }
+    requires { at + Layout.stroke_length < 2 ^ 64 }
     ensures { result ≡ Operands.finite_stroke s.now at }
 {
-    finite_from(s, at + 9, 10) && finite_from(s, at + 97, 1) && finite_from(s, at + 106, 1)
+    finite_from(s, at + layout::FILL_BOX, 10)
+        && finite_from(s, at + layout::STROKE_STYLE, 1)
+        && finite_from(s, at + layout::STROKE_MITER_LIMIT, 1)
 }
 
 #[tactic(auto, unfolding(crate::specs::Operands::finite_run))]
 fn finite_run(s: &[u8], at: usize) -> bool
-    requires { at + 103 < 2 ^ 64 }
+    requires { at + Layout.run_length < 2 ^ 64 }
     ensures { result ≡ Operands.finite_run s.now at }
 {
-    finite_f32(s, at + 9) && finite_from(s, at + 13, 6) && finite_from(s, at + 69, 4)
+    finite_f32(s, at + layout::RUN_SIZE)
+        && finite_from(s, at + layout::RUN_AFFINE, 6)
+        && finite_from(s, at + layout::RUN_BOX, 4)
 }
 
 #[tactic(auto, unfolding(crate::specs::Operands::codes_fit))]
@@ -68,12 +73,12 @@ fn operands_inside(s: &[u8], at: usize, kind: Kind) -> Result<(), Fault>
 {
     match kind {
         Kind::End | Kind::Pop => Ok(()),
-        Kind::Clip => floats_pass(finite_from(s, at + 1, 4)),
-        Kind::Fill => floats_pass(finite_from(s, at + 9, 10)),
+        Kind::Clip => floats_pass(finite_from(s, at + layout::CLIP_BOX, 4)),
+        Kind::Fill => floats_pass(finite_from(s, at + layout::FILL_BOX, 10)),
         Kind::Stroke => {
-            let join = little_endian::byte_at(s, at + 105);
-            let start = little_endian::byte_at(s, at + 114);
-            let end = little_endian::byte_at(s, at + 115);
+            let join = little_endian::byte_at(s, at + layout::STROKE_JOIN);
+            let start = little_endian::byte_at(s, at + layout::STROKE_START_CAP);
+            let end = little_endian::byte_at(s, at + layout::STROKE_END_CAP);
             if codes_fit(join, start, end) {
                 floats_pass(finite_stroke(s, at))
             } else {
@@ -82,7 +87,7 @@ fn operands_inside(s: &[u8], at: usize, kind: Kind) -> Result<(), Fault>
         }
         Kind::Run => floats_pass(finite_run(s, at)),
         Kind::Glyph => floats_pass(glyph_passes(s, at)),
-        Kind::Scene => floats_pass(finite_from(s, at + 25, 10)),
+        Kind::Scene => floats_pass(finite_from(s, at + layout::SCENE_AFFINE, 10)),
     }
 }
 
@@ -108,5 +113,7 @@ pub fn glyph_passes(s: &[u8], at: usize) -> bool
     if s.len() <= at {
         return true;
     }
-    finite_f32(s, at + 5) && finite_f32(s, at + 9) && finite_from(s, at + 13, 4)
+    finite_f32(s, at + layout::GLYPH_X)
+        && finite_f32(s, at + layout::GLYPH_Y)
+        && finite_from(s, at + layout::GLYPH_BOX, 4)
 }

@@ -3,6 +3,7 @@
 #![tactic(auto)]
 
 ghost use Rattle.std.specs.Prelude.{◌≡◌, ◌≤◌};
+ghost use Rattle.strip_format.specs.Limits as Limits;
 ghost use Rattle.frame.specs.Frame as Frame;
 ghost use Rattle.strip.specs.Reading.{read_strip};
 ghost use Rattle.recording.specs.Recorded.{space, SameLengths, Records, RecordsFirst, RecordsNew, RecordsBoth};
@@ -25,7 +26,7 @@ fn record_strip(
     items: &mut [u64],
     item_boxes: &mut [f64],
 ) -> Result<Cursor, Refusal>
-    requires { (clips ≤ 4096) × (commands ≤ 4096) }
+    requires { (clips ≤ Limits.most_clips) × (commands ≤ Limits.most_commands) }
     ensures answer { result ≡ read_strip s.now at }
     ensures lengths { SameLengths (space boxes.old below.old items.old item_boxes.old) (space boxes.new below.new items.new item_boxes.new) }
     ensures lists { Records s.now at clips commands (space boxes.old below.old items.old item_boxes.old) (space boxes.new below.new items.new item_boxes.new) result }
@@ -87,7 +88,7 @@ fn record_new(
     items: &mut [u64],
     item_boxes: &mut [f64],
 ) -> Result<Strips, Refusal>
-    requires { (old.clips ≤ 4096) × (old.commands ≤ 4096) }
+    requires { (old.clips ≤ Limits.most_clips) × (old.commands ≤ Limits.most_commands) }
     ensures answer { result ≡ Frame.then_new s.now old (read_strip s.now old.at) }
     ensures lengths { SameLengths (space boxes.old below.old items.old item_boxes.old) (space boxes.new below.new items.new item_boxes.new) }
     ensures lists { RecordsNew s.now old (space boxes.old below.old items.old item_boxes.old) (space boxes.new below.new items.new item_boxes.new) result }

@@ -9,6 +9,7 @@ use Rattle.display_list.specs.Lists.{offset_at, clip_number_at}
 use Rattle.equality.specs.Drawings.{same_drawing}
 use Rattle.strip_format.specs.declared.Kind.TheVariants.{Run as RunKind}
 use Rattle.strip_format.specs.Format.{length_of, command_at}
+use Rattle.strip_format.specs.Layout as Layout
 use Rattle.command_bounds.specs.Kinds.{kind_at}
 use Rattle.stored_lists.specs.Stored.{Stored}
 use Rattle.glyph_changes.specs.declared.Run.{Run}
@@ -25,7 +26,13 @@ pub record Both (i j : ℕ) (s : List ℕ) (bs : List Float) (ns is : List ℕ) 
 
 -- ---- one command
 abbrev pub run_at : List ℕ → List ℕ → ℕ → Run
-run_at s is i = record { glyphs = offset_at is i + 103; count = glyph_count (command_at s (offset_at is i)); transform = transform_of (command_at s (offset_at is i)); clip = clip_number_at is i }
+run_at s is i =
+    record {
+      glyphs = offset_at is i + Layout.run_glyphs;
+      count = glyph_count (command_at s (offset_at is i));
+      transform = transform_of (command_at s (offset_at is i));
+      clip = clip_number_at is i;
+    }
 
 -- what is decoded of the command at place i
 unfoldable pub placed_at : List ℕ → List ℕ → List Float → ℕ → PlacedCommand
@@ -48,7 +55,10 @@ Standing s is i = (2 * i + 2 ≤ length is) × (offset_at is i < length s)
 
 -- how many bytes it has, its glyphs' among them
 unfoldable pub whole_length : List ℕ → ℕ → ℕ
-whole_length s at = pick (eqb (get_or s at 0) 5) (103 + 45 * u16_at s (at + 101)) (length_of (get_or s at 0))
+whole_length s at =
+    pick (eqb (get_or s at 0) Layout.run_code)
+    (Layout.run_length + Layout.glyph_length * u16_at s (at + Layout.run_count))
+    (length_of (get_or s at 0))
 
 -- ---- two commands
 pub record Pair (s : List ℕ) (bs : List Float) (ns : List ℕ) (a b : PlacedCommand) : Type 0 where
@@ -63,7 +73,7 @@ AlikeClips bs ns x y = same_clips (chain bs ns x) (chain bs ns y) ≡ true
 
 -- the first is no RUN, and the two differ in an operand
 unfoldable pub apart : List ℕ → ℕ → ℕ → Bool
-apart s p q = pick (eqb (get_or s p 0) 5) false (pick (same_drawing (command_at s p) (command_at s q)) false true)
+apart s p q = pick (eqb (get_or s p 0) Layout.run_code) false (pick (same_drawing (command_at s p) (command_at s q)) false true)
 
 -- a RUN stands whole at p, and at q another with the same operands and as many glyphs
 abbrev pub SameRun : List ℕ → ℕ → ℕ → Type 0

@@ -11,6 +11,7 @@ ghost use Rattle.clips.specs.Chains.{chain, Rooted};
 ghost use Rattle.equality.specs.Drawings as Drawings;
 ghost use Rattle.differences.specs.Differences.{rect_symmetric_difference};
 ghost use Rattle.display_list.specs.Lists.{offset_at, clip_number_at};
+ghost use Rattle.strip_format.specs.Limits as Limits;
 ghost use Rattle.strip.specs.Reading.{command_of};
 ghost use Rattle.changes.specs.Changes.{changed_glyphs, changed_bounds, diff_dirty};
 ghost use Rattle.stored_lists.specs.Stored.{Stored, command_in, commands_in};
@@ -25,7 +26,7 @@ use commands::DrawCommand;
 use geometry::Rect;
 use glyph_changes::Run;
 use rect_list::RectList;
-use strip_format::{GLYPH_LENGTH, Kind, RUN_LENGTH};
+use strip_format::{Kind, layout};
 
 // The counts that dew keeps of a frame, as far as a plan tells them.
 #[derive(Clone, Copy, Debug, PartialEq, Eq)]
@@ -92,7 +93,7 @@ fn same_run(s: &[u8], at: usize, other: usize) -> bool
 {
     command_bounds::stands(s, at, Kind::Run)
         && command_bounds::stands(s, other, Kind::Run)
-        && little_endian::same_bytes(s, at, other, RUN_LENGTH)
+        && little_endian::same_bytes(s, at, other, layout::RUN_LENGTH)
 }
 
 // The length of the command at an offset, with its glyphs.
@@ -103,7 +104,8 @@ fn whole_length(s: &[u8], at: usize) -> usize
 {
     let byte = s[at];
     if Kind::try_from(byte) == Ok(Kind::Run) {
-        return RUN_LENGTH + GLYPH_LENGTH * usize::from(strip_format::glyph_count_at(s, at));
+        return layout::RUN_LENGTH
+            + layout::GLYPH_LENGTH * usize::from(strip_format::glyph_count_at(s, at));
     }
     strip_format::length_of(byte)
 }
@@ -162,7 +164,7 @@ impl ListSpace<'_> {
         PlacedCommand {
             command,
             run: Run {
-                glyphs: at + RUN_LENGTH,
+                glyphs: at + layout::RUN_GLYPHS,
                 count: glyph_count(command),
                 transform: command.transform(),
                 clip: self.clip_number_at(i),
@@ -237,13 +239,13 @@ impl ListSpace<'_> {
         let transform = command_bounds::transform_at(self.bytes, at);
         let count = u32::from(strip_format::glyph_count_at(self.bytes, at));
         let run = Run {
-            glyphs: at + RUN_LENGTH,
+            glyphs: at + layout::RUN_GLYPHS,
             count,
             transform,
             clip: self.clip_number_at(i),
         };
         let other_run = Run {
-            glyphs: other + RUN_LENGTH,
+            glyphs: other + layout::RUN_GLYPHS,
             count,
             transform,
             clip: self.clip_number_at(j),
@@ -310,7 +312,7 @@ impl ListSpace<'_> {
     // It takes words and makes the list itself: a `RectList` lent to it would have to hold no box, which asks more of a caller.
     // By number, since each step compares two places of one list.
     pub fn diff_dirty(self, old: usize, new: usize, rects: &mut [f64]) -> usize
-        requires { Stored (old + new) self.bytes.now self.boxes.now self.below.now self.items.now self.item_boxes.now × (old ≤ 4096) × (new ≤ 4096) }
+        requires { Stored (old + new) self.bytes.now self.boxes.now self.below.now self.items.now self.item_boxes.now × (old ≤ Limits.most_commands) × (new ≤ Limits.most_commands) }
         ensures { Listed rects.old (diff_dirty (commands_in self.entry.bytes.now self.entry.boxes.now self.entry.below.now self.entry.items.now 0 old) (commands_in self.entry.bytes.now self.entry.boxes.now self.entry.below.now self.entry.items.now old new)) rects.new result }
     {
         let mut list = RectList::new(rects);

@@ -23,7 +23,7 @@ use Rattle.operand_checks.specs.Operands.{operands_at}
 use Rattle.strip.specs.declared.Cursor.{Cursor}
 use Rattle.strip.specs.declared.Step.TheVariants.{Clip, Pop}
 use Rattle.strip.specs.declared.Step.{Step}
-use Rattle.strip.specs.Steps.{due_fits, on_box, on_operands, clip_step, pop_step, draw_step, run_step, announced, announce, Draws, unite, last_step, glyph_step, end_step, effect_of, step_at}
+use Rattle.strip.specs.Steps.{due_fits, on_box, on_operands, opened, closed, clip_step, pop_step, draw_step, run_step, announced, announce, Draws, unite, last_step, glyph_step, end_step, effect_of, step_at}
 use Rattle.std.specs.Prelude.{Option, Some, None, Result, Ok, Err}
 
 -- a step by whether its operands pass
@@ -46,15 +46,15 @@ module _ (s : List ℕ) (st : Cursor) where
   unfolding clip_step
   clip_many h k = rw (lt-leb 32 st.depth h, le-leb 4096 st.clips k)
 
-  pub clip_read : (box : Rect) → box ≡ rect_at s (st.at + 1) → st.depth < 32 → st.clips < 4096 → Ok (Clip (record { at = st.at + 33; depth = st.depth + 1; clips = st.clips + 1; commands = st.commands; glyphs = st.glyphs; due = st.due; run = st.run; united = st.united }) box) ≡ clip_step s st
+  pub clip_read : (box : Rect) → box ≡ rect_at s (st.at + 1) → st.depth < 32 → st.clips < 4096 → Ok (Clip (opened st) box) ≡ clip_step s st
   unfolding clip_step
-  clip_read box e h k = rw (lt-leb 32 st.depth h, lt-leb 4096 st.clips k) (ap (λ (b : Rect). Ok (Clip (record { at = st.at + 33; depth = st.depth + 1; clips = st.clips + 1; commands = st.commands; glyphs = st.glyphs; due = st.due; run = st.run; united = st.united }) b)) e)
+  clip_read box e h k = rw (lt-leb 32 st.depth h, lt-leb 4096 st.clips k) (ap (λ (b : Rect). Ok (Clip (opened st) b)) e)
 
   pub pop_none : st.depth ≡ 0 → refused NoOpenClip st.at ≡ pop_step st
   unfolding pop_step
   pop_none h = rw (eq-eqb st.depth 0 h)
 
-  pub pop_read : (st.depth ≡ 0 → ⊥) → Ok (Pop (record { at = st.at + 1; depth = st.depth - 1; clips = st.clips; commands = st.commands; glyphs = st.glyphs; due = st.due; run = st.run; united = st.united })) ≡ pop_step st
+  pub pop_read : (st.depth ≡ 0 → ⊥) → Ok (Pop (closed st)) ≡ pop_step st
   unfolding pop_step
   pop_read h = rw (ne_eqb st.depth 0 h)
 

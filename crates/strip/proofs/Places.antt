@@ -16,7 +16,7 @@ use Rattle.geometry.specs.Boxes.{inflate}
 use Rattle.commands.specs.declared.Stroke.{Stroke}
 use Rattle.commands.specs.declared.DrawCommand.{DrawCommand}
 use Rattle.commands.specs.Strokes.{stroke_bounds_inflation}
-use Rattle.commands.specs.Bounds.{transform_of, local_with}
+use Rattle.commands.specs.Bounds.{transform_of, stroke_bounds, local_with}
 use Rattle.strip_format.specs.Format.{rect_at, affine_at, stroke_at, fill_at, stroke_path_at, run_at, scene_at, command_at, affine_offset, rect_offset}
 use Rattle.strip_format.specs.Finite.{FourFinite}
 use Rattle.strip_format.proofs.Lengths.{length_fill, length_stroke, length_run, length_scene}
@@ -63,10 +63,10 @@ by_kind P b known d fill stroke run scene =
 
 -- a box, inflated by the operands of its STROKE
 abbrev inflated : List ℕ → ℕ → Rect → Rect
-inflated s at box = inflate box (stroke_bounds_inflation (stroke_at s (at + 97))) (stroke_bounds_inflation (stroke_at s (at + 97)))
+inflated s at box = stroke_bounds box (stroke_at s (at + 97))
 
 -- a box that was inflated by what was read of its stroke
-inflated_by : {read bounds by : Rect} {stroke operands : Stroke} {inflation : Float} → read ≡ bounds → stroke ≡ operands → inflation ≡ stroke_bounds_inflation stroke → by ≡ inflate read inflation inflation → by ≡ inflate bounds (stroke_bounds_inflation operands) (stroke_bounds_inflation operands)
+inflated_by : {read bounds by : Rect} {stroke operands : Stroke} {inflation : Float} → read ≡ bounds → stroke ≡ operands → inflation ≡ stroke_bounds_inflation stroke → by ≡ inflate read inflation inflation → by ≡ stroke_bounds bounds operands
 inflated_by e f g h = cc
 
 -- affine and box stand within the strip, with finite floats, and are the command's

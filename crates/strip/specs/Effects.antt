@@ -10,6 +10,8 @@ use Rattle.affine.specs.Affines.{try_transform, finite_corners}
 use Rattle.commands.specs.Bounds.{local_with}
 use Rattle.strip_format.specs.Format.{length_of, rect_at, command_at}
 use Rattle.strip_format.specs.Finite.{FourFinite, FourNear}
+use Rattle.strip_format.specs.Layout as Layout
+use Rattle.strip_format.specs.Limits as Limits
 use Rattle.strip_format.specs.declared.Kind.TheVariants.{Run}
 use Rattle.command_bounds.specs.Kinds.{kind_at}
 use Rattle.operand_checks.specs.Operands.{finite_f32, finite_glyph, operands_at}
@@ -30,7 +32,7 @@ settled (Err r) = Err r
 
 -- past a drawing command of this length, which announces so many glyphs
 abbrev pub drawn_or_many : Cursor → ℕ → ℕ → Result Cursor Refusal
-drawn_or_many st len due = pick (leb 4096 st.commands) (refused TooMany st.at) (Ok (drawn st len due))
+drawn_or_many st len due = pick (leb Limits.most_commands st.commands) (refused TooMany st.at) (Ok (drawn st len due))
 
 -- a glyph with this box, of a run with this affine: the run's last completes it
 unfoldable pub last_effect : Cursor → Affine → Rect → Effect
@@ -40,7 +42,7 @@ last_effect st m box = pick (eqb st.due 1) (Drawn (glyph_read st box) st.run st.
 -- a command with this byte stands whole at an offset, and its operands pass
 pub record Stands (s : List ℕ) (at b : ℕ) : Type 0 where
   pub byte : get_or s at 0 ≡ b
-  pub known : b ≤ 7
+  pub known : b ≤ Layout.last_code
   pub room : at + length_of b ≤ length s
   pub operands : operands_at s at b ≡ Ok tt
 
@@ -57,32 +59,32 @@ OwnBounds s at box = (united : Rect) → box ≡ local_with (command_at s at) un
 -- a GLYPH that is due stands whole at the cursor, and is not the last of its run
 pub record GlyphDue (s : List ℕ) (st : Cursor) : Type 0 where
   pub more : 2 ≤ st.due
-  pub room : st.at + 45 ≤ length s
-  pub byte : get_or s st.at 0 ≡ 6
-  pub count : st.glyphs < 16384
+  pub room : st.at + Layout.glyph_length ≤ length s
+  pub byte : get_or s st.at 0 ≡ Layout.glyph_code
+  pub count : st.glyphs < Limits.most_glyphs
 
 -- its place is finite
 abbrev pub GlyphPlaced : List ℕ → Cursor → Type 0
-GlyphPlaced s st = GlyphDue s st × (finite_f32 s (st.at + 5) ≡ true) × (finite_f32 s (st.at + 9) ≡ true)
+GlyphPlaced s st = GlyphDue s st × (finite_f32 s (st.at + Layout.glyph_x) ≡ true) × (finite_f32 s (st.at + Layout.glyph_y) ≡ true)
 
 -- such a GLYPH passes, by this affine
 pub record GoesOn (s : List ℕ) (st : Cursor) (t : Affine) : Type 0 where
   pub due : GlyphDue s st
   pub operands : finite_glyph s st.at ≡ true
-  pub corners : finite_corners t (rect_at s (st.at + 13)) ≡ true
+  pub corners : finite_corners t (rect_at s (st.at + Layout.glyph_box)) ≡ true
 
 -- its floats are finite, and those of its box below 2 ^ 500; so are those of a RUN's affine
 abbrev pub NearGoesOn : List ℕ → Cursor → Type 0
-NearGoesOn s st = GlyphPlaced s st × FourNear s (st.at + 13)
+NearGoesOn s st = GlyphPlaced s st × FourNear s (st.at + Layout.glyph_box)
 
 abbrev pub NearRun : List ℕ → ℕ → Type 0
-NearRun s at = (kind_at s at ≡ Some Run) × FourNear s (at + 13) × FourNear s (at + 13 + 16)
+NearRun s at = (kind_at s at ≡ Some Run) × FourNear s (at + Layout.run_affine) × FourNear s (at + Layout.run_affine + 16)
 
 -- a glyph that stands whole at the cursor, with a finite box, and only moves it
 pub record OnlyMoves (s : List ℕ) (st : Cursor) : Type 0 where
   pub due : GlyphDue s st
-  pub box : FourFinite s (st.at + 13)
-  pub step : step_at s st ≡ Ok (Next (glyph_read st (rect_at s (st.at + 13))))
+  pub box : FourFinite s (st.at + Layout.glyph_box)
+  pub step : step_at s st ≡ Ok (Next (glyph_read st (rect_at s (st.at + Layout.glyph_box))))
 
 -- n steps from st to t, each of which only moves the cursor
 unfoldable pub Moves : ℕ → List ℕ → Cursor → Cursor → Type 0

@@ -6,6 +6,7 @@ use Rattle.std.specs.Prelude.{List, [], ◌∷◌, ◌++◌, ℕ, zero, suc, ◌
 use Rattle.geometry.specs.declared.Rect.{Rect}
 use Rattle.commands.specs.Bounds.{Command, glyph_count}
 use Rattle.strip_format.specs.Format.{command_at, glyphs_from}
+use Rattle.strip_format.specs.Layout as Layout
 use Rattle.strip.specs.declared.Cursor.{Cursor}
 use Rattle.strip.specs.declared.Step.{Step}
 use Rattle.strip.specs.declared.Step.TheVariants.{Next, Clip, Pop, Draw, End}
@@ -31,7 +32,7 @@ read_strip s at = read_from (suc (length s)) s (start_at at)
 -- ---- the list
 -- the command whose first byte stands at an offset, with its glyphs behind it, under the open clips
 abbrev pub command_of : List ℕ → ℕ → List Rect → Command
-command_of s at under = record { draw = command_at s at; glyphs = glyphs_from s (at + 103) (glyph_count (command_at s at)); clips = under }
+command_of s at under = record { draw = command_at s at; glyphs = glyphs_from s (at + Layout.run_glyphs) (glyph_count (command_at s at)); clips = under }
 
 -- all but the last
 abbrev pub drop_last : List Rect → List Rect
@@ -45,9 +46,9 @@ pub record Listing : Type 0 where
 -- what a step adds
 abbrev pub noted : List ℕ → Listing → Result Step Refusal → Listing
 noted s l (Ok (Next t)) = l
-noted s l (Ok (Clip t box)) = record { clips = l.clips ++ (box ∷ []); commands = l.commands }
-noted s l (Ok (Pop t)) = record { clips = drop_last l.clips; commands = l.commands }
-noted s l (Ok (Draw t at box)) = record { clips = l.clips; commands = l.commands ++ (command_of s at l.clips ∷ []) }
+noted s l (Ok (Clip t box)) = record l { clips = l.clips ++ (box ∷ []) }
+noted s l (Ok (Pop t)) = record l { clips = drop_last l.clips }
+noted s l (Ok (Draw t at box)) = record l { commands = l.commands ++ (command_of s at l.clips ∷ []) }
 noted s l (Ok (End t)) = l
 noted s l (Err r) = l
 

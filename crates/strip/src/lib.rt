@@ -5,6 +5,8 @@ ghost use Rattle.std.specs.Prelude.{◌≡◌, true, ◌+◌, ◌≤◌, ◌<◌
 ghost use Rattle.commands.specs.Bounds.{transform_of};
 ghost use Rattle.strip_format.specs.Format.{length_of, command_at};
 ghost use Rattle.strip_format.specs.Kinds.{code};
+ghost use Rattle.strip_format.specs.Layout as Layout;
+ghost use Rattle.strip_format.specs.Limits as Limits;
 ghost use Rattle.strip_format.specs.Finite.{FourFinite};
 ghost use Rattle.strip.specs.Steps as Steps;
 ghost use Rattle.strip.specs.Reading as Reading;
@@ -14,20 +16,12 @@ ghost use Rattle.strip.specs.Effects.{settled, drawn_or_many, last_effect, Stand
 use affine::Affine;
 use geometry::Rect;
 use refusals::{Fault, Refusal};
-use strip_format::{GLYPH_LENGTH, Kind, RUN_LENGTH};
+use strip_format::limits::{MOST_CLIPS, MOST_COMMANDS, MOST_DEPTH, MOST_GLYPHS};
+use strip_format::{Kind, layout};
 
 mod reader;
 
 pub use reader::{Reader, cursor_at, read_behind};
-
-// What a frame may have at most: clips open at once, clips, drawing commands and glyphs.
-const MOST_DEPTH: u64 = 32;
-
-const MOST_CLIPS: u64 = 4096;
-
-const MOST_COMMANDS: u64 = 4096;
-
-const MOST_GLYPHS: u64 = 16384;
 
 // Where reading stands: the offset, how many clips are open, what has been counted, how many glyphs are due of the run at
 // `run`, and the union of its glyph boxes so far. Where none is due both stay what they were, and nothing reads them: an Option of the run would
@@ -92,28 +86,28 @@ impl Cursor {
     }
 
     fn clip(mut self, s: &[u8]) -> Result<Step, Refusal>
-        requires { (self.at + 33 ≤ length s.now) × FourFinite s.now (self.at + 1) }
+        requires { (self.at + Layout.clip_length ≤ length s.now) × FourFinite s.now (self.at + Layout.clip_box) }
         ensures { result ≡ Steps.clip_step s.now self }
     {
         let at = self.at;
         if MOST_DEPTH <= self.depth || MOST_CLIPS <= self.clips {
             return Err(Fault::TooMany.at(at));
         }
-        let bounds = strip_format::rect_finite(s, at + 1);
-        self.at += 33;
+        let bounds = strip_format::rect_finite(s, at + layout::CLIP_BOX);
+        self.at += layout::CLIP_LENGTH;
         self.depth += 1;
         self.clips += 1;
         Ok(Step::Clip(self, bounds))
     }
 
     fn pop(mut self) -> Result<Step, Refusal>
-        requires { self.at + 1 < 2 ^ 64 }
+        requires { self.at + Layout.pop_length < 2 ^ 64 }
         ensures { result ≡ Steps.pop_step self }
     {
         if self.depth == 0 {
             return Err(Fault::NoOpenClip.at(self.at));
         }
-        self.at += 1;
+        self.at += layout::POP_LENGTH;
         self.depth -= 1;
         Ok(Step::Pop(self))
     }
@@ -153,14 +147,14 @@ impl Cursor {
                 bounds,
             });
         }
-        Ok(Effect::Done(Step::Next(self.drawn(RUN_LENGTH, due)?)))
+        Ok(Effect::Done(Step::Next(self.drawn(layout::RUN_LENGTH, due)?)))
     }
 
     // The boxes of the run's glyphs up to this one, united. The first glyph stands right behind its RUN.
     fn unite(self, bounds: Rect) -> Rect
         ensures { result ≡ Steps.unite self bounds }
     {
-        if self.run <= self.at && self.at - self.run == RUN_LENGTH {
+        if self.run <= self.at && self.at - self.run == layout::RUN_GLYPHS {
             return bounds;
         }
         self.united.union(bounds)
@@ -168,11 +162,11 @@ impl Cursor {
 
     // Past a glyph with this box.
     fn past_glyph(mut self, bounds: Rect) -> Cursor
-        requires { (self.at + 45 < 2 ^ 64) × (0 < self.due) × (self.glyphs < 16384) }
+        requires { (self.at + Layout.glyph_length < 2 ^ 64) × (0 < self.due) × (self.glyphs < Limits.most_glyphs) }
         ensures { result ≡ Steps.glyph_read self bounds }
     {
         self.united = self.unite(bounds);
-        self.at += GLYPH_LENGTH;
+        self.at += layout::GLYPH_LENGTH;
         self.glyphs += 1;
         self.due -= 1;
         self
@@ -180,7 +174,7 @@ impl Cursor {
 
     // The glyph with this box, once its own corners are known to be finite by the run's affine.
     fn last(self, transform: Affine, bounds: Rect) -> Effect
-        requires { (self.at + 45 < 2 ^ 64) × (0 < self.due) × (self.glyphs < 16384) }
+        requires { (self.at + Layout.glyph_length < 2 ^ 64) × (0 < self.due) × (self.glyphs < Limits.most_glyphs) }
         ensures { result ≡ last_effect self transform bounds }
     {
         let next = self.past_glyph(bounds);
@@ -198,14 +192,14 @@ impl Cursor {
     }
 
     fn glyph(self, s: &[u8]) -> Result<Effect, Refusal>
-        requires { (self.at + 45 ≤ length s.now) × (0 < self.due) × FourFinite s.now (self.at + 13) }
+        requires { (self.at + Layout.glyph_length ≤ length s.now) × (0 < self.due) × FourFinite s.now (self.at + Layout.glyph_box) }
         ensures { settled result ≡ Steps.glyph_step s.now self }
     {
         let at = self.at;
         if MOST_GLYPHS <= self.glyphs {
             return Err(Fault::TooMany.at(at));
         }
-        let bounds = strip_format::rect_finite(s, at + 13);
+        let bounds = strip_format::rect_finite(s, at + layout::GLYPH_BOX);
         let transform = command_bounds::transform_at(s, self.run);
         if transform.finite_corners(bounds) {
             Ok(self.last(transform, bounds))
@@ -231,7 +225,10 @@ fn drawn_bounds(s: &[u8], at: usize, kind: Kind) -> Rect
     let bounds = strip_format::rect_finite(s, strip_format::rect_offset(at, kind));
     match kind {
         Kind::Stroke => {
-            let inflation = commands::stroke_bounds_inflation(strip_format::stroke_at(s, at + 97));
+            let inflation = commands::stroke_bounds_inflation(strip_format::stroke_at(
+                s,
+                at + layout::STROKE_STYLE,
+            ));
             bounds.inflate(inflation, inflation)
         }
         _ => bounds,
@@ -267,7 +264,7 @@ fn effect_of(s: &[u8], st: Cursor, kind: Kind) -> Result<Effect, Refusal>
     match kind {
         Kind::End => {
             let mut end = st;
-            end.at += 1;
+            end.at += layout::END_LENGTH;
             Ok(Effect::Done(Step::End(end)))
         }
         Kind::Clip => Ok(Effect::Done(st.clip(s)?)),
@@ -341,8 +338,8 @@ fn glyph_placed(s: &[u8], st: Cursor) -> bool
     ensures { result ≡ true → GlyphPlaced s.now st }
 {
     glyph_due(s, st)
-        && little_endian::finite32_inside(s, st.at + 5)
-        && little_endian::finite32_inside(s, st.at + 9)
+        && little_endian::finite32_inside(s, st.at + layout::GLYPH_X)
+        && little_endian::finite32_inside(s, st.at + layout::GLYPH_Y)
 }
 
 // True only where such a glyph passes, by the run's affine.
@@ -351,8 +348,8 @@ fn glyph_goes_on(s: &[u8], st: Cursor, transform: Affine) -> bool
     ensures { result ≡ true → GoesOn s.now st transform }
 {
     glyph_placed(s, st)
-        && strip_format::all_finite(s, st.at + 13, 4)
-        && transform.finite_corners(strip_format::rect_finite(s, st.at + 13))
+        && strip_format::all_finite(s, st.at + layout::GLYPH_BOX, 4)
+        && transform.finite_corners(strip_format::rect_finite(s, st.at + layout::GLYPH_BOX))
 }
 
 // True only where the floats of such a glyph are finite, and those of its box below 2^500.
@@ -360,7 +357,7 @@ fn glyph_goes_on(s: &[u8], st: Cursor, transform: Affine) -> bool
 fn near_goes_on(s: &[u8], st: Cursor) -> bool
     ensures { result ≡ true → NearGoesOn s.now st }
 {
-    glyph_placed(s, st) && strip_format::near_rect(s, st.at + 13)
+    glyph_placed(s, st) && strip_format::near_rect(s, st.at + layout::GLYPH_BOX)
 }
 
 // True only where a RUN stands at an offset whose affine's entries are below 2^500.
@@ -369,8 +366,8 @@ fn near_run(s: &[u8], at: usize) -> bool
     ensures { result ≡ true → NearRun s.now at }
 {
     command_bounds::stands(s, at, Kind::Run)
-        && strip_format::near_rect(s, at + 13)
-        && strip_format::near_rect(s, at + 13 + 16)
+        && strip_format::near_rect(s, at + layout::RUN_AFFINE)
+        && strip_format::near_rect(s, at + layout::RUN_AFFINE + 16)
 }
 
 // Past the glyphs at the cursor that only move it, as long as a test that tells such a glyph finds one.
@@ -381,7 +378,7 @@ fn pass_while<F: Fn(Cursor) -> bool>(s: &[u8], st: Cursor, goes_on: F) -> Cursor
 {
     let mut next = st;
     while goes_on(next) {
-        let bounds = strip_format::rect_finite(s, next.at + 13);
+        let bounds = strip_format::rect_finite(s, next.at + layout::GLYPH_BOX);
         next = next.past_glyph(bounds);
     }
     next

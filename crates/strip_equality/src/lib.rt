@@ -6,11 +6,12 @@ ghost use Rattle.std.specs.Prelude.{◌≡◌, ◌+◌, ◌*◌, ◌≤◌, leng
 ghost use Rattle.std.specs.Float.Ieee.{eq};
 ghost use Rattle.little_endian.specs.Words.{f64_at};
 ghost use Rattle.equality.specs.Drawings.{same_drawing};
+ghost use Rattle.strip_format.specs.Layout as Layout;
 ghost use Rattle.strip_format.specs.Format.{rect_at, affine_at, fill_at, stroke_path_at, scene_at, command_at};
 ghost use Rattle.strip_equality.specs.Places.{same_floats, same_path_at};
 
 use operand_equality::stroke_eq;
-use strip_format::{Kind, stroke_at};
+use strip_format::{Kind, layout, stroke_at};
 
 // Whether the f64 at two offsets are equal. Most have the same bits, and what is decoded is finite, so it equals itself. By itself, so that what calls it only
 // where bytes differ stays small.
@@ -45,33 +46,42 @@ fn same_floats<const N: usize>(s: &[u8], p: usize, q: usize) -> bool
 // The operands that a FILL and a STROKE share. The numbers come first: where they differ no float is looked at.
 #[tactic(auto, unfolding(operand_equality::specs::Operands::same_path), using(crate::proofs::Places::four_same, crate::proofs::Places::six_same))]
 fn same_path(s: &[u8], p: usize, q: usize) -> bool
-    requires { (p + 97 ≤ length s.now) × (q + 97 ≤ length s.now) }
+    requires { (p + Layout.fill_length ≤ length s.now) × (q + Layout.fill_length ≤ length s.now) }
     ensures { result ≡ same_path_at s.now p q }
 {
-    little_endian::u64_inside(s, p + 1) == little_endian::u64_inside(s, q + 1)
-        && little_endian::u64_inside(s, p + 89) == little_endian::u64_inside(s, q + 89)
-        && same_floats::<4>(s, p + 9, q + 9)
-        && same_floats::<6>(s, p + 41, q + 41)
+    little_endian::u64_inside(s, p + layout::FILL_PATH)
+        == little_endian::u64_inside(s, q + layout::FILL_PATH)
+        && little_endian::u64_inside(s, p + layout::FILL_BRUSH)
+            == little_endian::u64_inside(s, q + layout::FILL_BRUSH)
+        && same_floats::<4>(s, p + layout::FILL_BOX, q + layout::FILL_BOX)
+        && same_floats::<6>(s, p + layout::FILL_AFFINE, q + layout::FILL_AFFINE)
 }
 
 #[tactic(auto, unfolding(equality::specs::Drawings::same_drawing, equality::specs::Drawings::same_stroked))]
 fn same_stroked(s: &[u8], p: usize, q: usize) -> bool
-    requires { (p + 124 ≤ length s.now) × (q + 124 ≤ length s.now) }
+    requires { (p + Layout.stroke_length ≤ length s.now) × (q + Layout.stroke_length ≤ length s.now) }
     ensures { result ≡ same_drawing (stroke_path_at s.now p) (stroke_path_at s.now q) }
 {
-    same_path(s, p, q) && stroke_eq(stroke_at(s, p + 97), stroke_at(s, q + 97))
+    same_path(s, p, q)
+        && stroke_eq(
+            stroke_at(s, p + layout::STROKE_STYLE),
+            stroke_at(s, q + layout::STROKE_STYLE),
+        )
 }
 
 #[tactic(auto, unfolding(equality::specs::Drawings::same_drawing, equality::specs::Drawings::same_scene), using(crate::proofs::Places::four_same, crate::proofs::Places::six_same))]
 fn same_scene(s: &[u8], p: usize, q: usize) -> bool
-    requires { (p + 105 ≤ length s.now) × (q + 105 ≤ length s.now) }
+    requires { (p + Layout.scene_length ≤ length s.now) × (q + Layout.scene_length ≤ length s.now) }
     ensures { result ≡ same_drawing (scene_at s.now p) (scene_at s.now q) }
 {
-    little_endian::u64_inside(s, p + 1) == little_endian::u64_inside(s, q + 1)
-        && little_endian::u64_inside(s, p + 9) == little_endian::u64_inside(s, q + 9)
-        && little_endian::u64_inside(s, p + 17) == little_endian::u64_inside(s, q + 17)
-        && same_floats::<6>(s, p + 25, q + 25)
-        && same_floats::<4>(s, p + 73, q + 73)
+    little_endian::u64_inside(s, p + layout::SCENE_CONTENT)
+        == little_endian::u64_inside(s, q + layout::SCENE_CONTENT)
+        && little_endian::u64_inside(s, p + layout::SCENE_GENERATION)
+            == little_endian::u64_inside(s, q + layout::SCENE_GENERATION)
+        && little_endian::u64_inside(s, p + layout::SCENE_TARGET)
+            == little_endian::u64_inside(s, q + layout::SCENE_TARGET)
+        && same_floats::<6>(s, p + layout::SCENE_AFFINE, q + layout::SCENE_AFFINE)
+        && same_floats::<4>(s, p + layout::SCENE_BOX, q + layout::SCENE_BOX)
 }
 
 fn same_decoded(s: &[u8], p: usize, q: usize) -> bool

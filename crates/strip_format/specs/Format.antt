@@ -1,4 +1,4 @@
--- What stands at an offset of a strip: document 01's table, byte by byte. "A box is x0, y0, x1, y1 .. An affine is a, b, c, d, e, f."
+-- What stands at an offset of a strip: document 01's table, byte by byte, by the numbers of `Layout`. "A box is x0, y0, x1, y1 .. An affine is a, b, c, d, e, f."
 use Rattle.std.specs.Prelude.{List, [], ◌∷◌, ℕ, zero, suc, ◌+◌, leb, eqb, length, get_or}
 use Rattle.std.specs.Float.{binary64}
 use Rattle.std.specs.Float.Ieee.{of_bits}
@@ -14,17 +14,24 @@ use Rattle.commands.specs.declared.Stroke.{Stroke}
 use Rattle.commands.specs.declared.Glyph.{Glyph}
 use Rattle.commands.specs.declared.DrawCommand.{DrawCommand}
 use Rattle.commands.specs.declared.DrawCommand.TheVariants.{FillPath, StrokePath, GlyphRun, Scene}
+use Rattle.strip_format.specs.Layout as Layout
 
--- ---- "Length", by the command's byte: 0 END, 1 CLIP, 2 POP, 3 FILL, 4 STROKE, 5 RUN, 6 GLYPH, 7 SCENE
+-- ---- "Length", by the command's byte
 unfoldable pub length_of : ℕ → ℕ
-length_of b = pick (eqb b 1) 33 (pick (eqb b 3) 97 (pick (eqb b 4) 124 (pick (eqb b 5) 103 (pick (eqb b 6) 45 (pick (eqb b 7) 105 1)))))
+length_of b =
+    pick (eqb b Layout.clip_code) Layout.clip_length
+    (pick (eqb b Layout.fill_code) Layout.fill_length
+    (pick (eqb b Layout.stroke_code) Layout.stroke_length
+    (pick (eqb b Layout.run_code) Layout.run_length
+    (pick (eqb b Layout.glyph_code) Layout.glyph_length (pick (eqb b Layout.scene_code) Layout.scene_length Layout.code_length)))))
 
 -- where the affine of a drawing command stands, and where its box does: RUN, SCENE, then FILL and STROKE
 unfoldable pub affine_offset : ℕ → ℕ → ℕ
-affine_offset at b = pick (eqb b 5) (at + 13) (pick (eqb b 7) (at + 25) (at + 41))
+affine_offset at b =
+    pick (eqb b Layout.run_code) (at + Layout.run_affine) (pick (eqb b Layout.scene_code) (at + Layout.scene_affine) (at + Layout.fill_affine))
 
 unfoldable pub rect_offset : ℕ → ℕ → ℕ
-rect_offset at b = pick (eqb b 5) (at + 69) (pick (eqb b 7) (at + 73) (at + 9))
+rect_offset at b = pick (eqb b Layout.run_code) (at + Layout.run_box) (pick (eqb b Layout.scene_code) (at + Layout.scene_box) (at + Layout.fill_box))
 
 -- ---- operands
 abbrev pub rect_at : List ℕ → ℕ → Rect
@@ -53,29 +60,37 @@ abbrev pub stroke_at : List ℕ → ℕ → Stroke
 stroke_at s at =
     record {
       width = f64_at s at;
-      join = join_of (get_or s (at + 8) 0);
-      miter_limit = f64_at s (at + 9);
-      start_cap = cap_of (get_or s (at + 17) 0);
-      end_cap = cap_of (get_or s (at + 18) 0);
-      dash = u64_at s (at + 19);
+      join = join_of (get_or s (at + Layout.style_join) 0);
+      miter_limit = f64_at s (at + Layout.style_miter_limit);
+      start_cap = cap_of (get_or s (at + Layout.style_start_cap) 0);
+      end_cap = cap_of (get_or s (at + Layout.style_end_cap) 0);
+      dash = u64_at s (at + Layout.style_dash);
     }
 
 -- ---- commands, from their first byte
 -- FILL: "path, box, affine, brush"
 abbrev pub fill_at : List ℕ → ℕ → DrawCommand
-fill_at s at = FillPath (u64_at s (at + 1)) (rect_at s (at + 9)) (affine_at s (at + 41)) (u64_at s (at + 89))
+fill_at s at =
+    FillPath (u64_at s (at + Layout.fill_path)) (rect_at s (at + Layout.fill_box)) (affine_at s (at + Layout.fill_affine))
+    (u64_at s (at + Layout.fill_brush))
 
 -- STROKE: "as FILL, width, join u8, miter limit, start cap u8, end cap u8, dash"
 abbrev pub stroke_path_at : List ℕ → ℕ → DrawCommand
-stroke_path_at s at = StrokePath (u64_at s (at + 1)) (rect_at s (at + 9)) (affine_at s (at + 41)) (stroke_at s (at + 97)) (u64_at s (at + 89))
+stroke_path_at s at =
+    StrokePath (u64_at s (at + Layout.fill_path)) (rect_at s (at + Layout.fill_box)) (affine_at s (at + Layout.fill_affine))
+    (stroke_at s (at + Layout.stroke_style)) (u64_at s (at + Layout.fill_brush))
 
 -- RUN: "font, size f32, affine, brush, box, glyph count u16"
 abbrev pub run_at : List ℕ → ℕ → DrawCommand
-run_at s at = GlyphRun (u64_at s (at + 1)) (f32_at s (at + 9)) (affine_at s (at + 13)) (u64_at s (at + 61)) (rect_at s (at + 69)) (u16_at s (at + 101))
+run_at s at =
+    GlyphRun (u64_at s (at + Layout.run_font)) (f32_at s (at + Layout.run_size)) (affine_at s (at + Layout.run_affine)) (u64_at s (at + Layout.run_brush))
+    (rect_at s (at + Layout.run_box)) (u16_at s (at + Layout.run_count))
 
 -- SCENE: "content, generation u64, target, affine, box"
 abbrev pub scene_at : List ℕ → ℕ → DrawCommand
-scene_at s at = Scene (u64_at s (at + 1)) (u64_at s (at + 9)) (u64_at s (at + 17)) (affine_at s (at + 25)) (rect_at s (at + 73))
+scene_at s at =
+    Scene (u64_at s (at + Layout.scene_content)) (u64_at s (at + Layout.scene_generation)) (u64_at s (at + Layout.scene_target))
+    (affine_at s (at + Layout.scene_affine)) (rect_at s (at + Layout.scene_box))
 
 -- a command without content, for offsets at which no drawing command stands whole
 abbrev pub blank : DrawCommand
@@ -87,15 +102,23 @@ blank =
 unfoldable pub command_at : List ℕ → ℕ → DrawCommand
 command_at s at =
     pick (leb (at + length_of (get_or s at 0)) (length s))
-    (pick (eqb (get_or s at 0) 3)
+    (pick (eqb (get_or s at 0) Layout.fill_code)
     (fill_at s at)
-    (pick (eqb (get_or s at 0) 4) (stroke_path_at s at) (pick (eqb (get_or s at 0) 5) (run_at s at) (pick (eqb (get_or s at 0) 7) (scene_at s at) blank))))
+    (pick (eqb (get_or s at 0) Layout.stroke_code)
+    (stroke_path_at s at)
+    (pick (eqb (get_or s at 0) Layout.run_code) (run_at s at) (pick (eqb (get_or s at 0) Layout.scene_code) (scene_at s at) blank))))
     blank
 
 -- GLYPH: "id u32, x f32, y f32, box"; the n glyphs from an offset on
 abbrev pub glyph_at : List ℕ → ℕ → Glyph
-glyph_at s at = record { id = u32_at s (at + 1); x = f32_at s (at + 5); y = f32_at s (at + 9); bounds = rect_at s (at + 13) }
+glyph_at s at =
+    record {
+      id = u32_at s (at + Layout.glyph_id);
+      x = f32_at s (at + Layout.glyph_x);
+      y = f32_at s (at + Layout.glyph_y);
+      bounds = rect_at s (at + Layout.glyph_box);
+    }
 
 unfoldable pub glyphs_from : List ℕ → ℕ → ℕ → List Glyph
 glyphs_from s at zero = []
-glyphs_from s at (suc n) = glyph_at s at ∷ glyphs_from s (at + 45) n
+glyphs_from s at (suc n) = glyph_at s at ∷ glyphs_from s (at + Layout.glyph_length) n

@@ -6,6 +6,7 @@
 
 ghost use Rattle.std.specs.Prelude.{◌≡◌, ◌+◌, ◌*◌, ◌%◌, ◌^◌, ◌≤◌, ◌<◌, ltb, length, true};
 ghost use Rattle.little_endian.specs.Words.{u16_at, u64_at};
+ghost use Rattle.strip_format.specs.Layout as Layout;
 ghost use Rattle.strip_format.specs.Format as Format;
 ghost use Rattle.strip_format.specs.Kinds.{code, Decodes};
 ghost use Rattle.strip_format.specs.Finite.{AllFinite, FloatsFrom, FourFinite, near_bits, FourNear};
@@ -14,10 +15,8 @@ use affine::Affine;
 use commands::{Cap, DrawCommand, Join, Stroke};
 use geometry::Rect;
 
-// The lengths of a RUN and of a GLYPH, which callers step over.
-pub const RUN_LENGTH: usize = 103;
-
-pub const GLYPH_LENGTH: usize = 45;
+pub mod layout;
+pub mod limits;
 
 // What a command is, by its byte.
 #[derive(Clone, Copy, Debug, PartialEq, Eq)]
@@ -60,49 +59,50 @@ impl Kind {
         ensures { result ≡ Format.length_of (code self) }
     {
         match self {
-            Kind::End | Kind::Pop => 1,
-            Kind::Clip => 33,
-            Kind::Fill => 97,
-            Kind::Stroke => 124,
-            Kind::Run => RUN_LENGTH,
-            Kind::Glyph => GLYPH_LENGTH,
-            Kind::Scene => 105,
+            Kind::End => layout::END_LENGTH,
+            Kind::Clip => layout::CLIP_LENGTH,
+            Kind::Pop => layout::POP_LENGTH,
+            Kind::Fill => layout::FILL_LENGTH,
+            Kind::Stroke => layout::STROKE_LENGTH,
+            Kind::Run => layout::RUN_LENGTH,
+            Kind::Glyph => layout::GLYPH_LENGTH,
+            Kind::Scene => layout::SCENE_LENGTH,
         }
     }
 }
 
-// The length of a command with its operands, by its byte; 1 for bytes that are no command's. Not by a `Kind`, which would ask more of callers.
+// The length of a command with its operands, by its byte; one byte for those that are no command's. Not by a `Kind`, which would ask more of callers.
 pub fn length_of(byte: u8) -> usize
     ensures { result ≡ Format.length_of byte }
 {
     match Kind::try_from(byte) {
         Ok(kind) => kind.length(),
-        Err(_) => 1,
+        Err(_) => layout::CODE_LENGTH,
     }
 }
 
 // Where the affine of a drawing command stands, and where its box does: two functions, since each is the format's own row of three places.
 #[tactic(auto, unfolding(crate::specs::Format::affine_offset))]
 pub fn affine_offset(at: usize, kind: Kind) -> usize
-    requires { at + 41 < 2 ^ 64 }
+    requires { at + Layout.fill_affine < 2 ^ 64 }
     ensures { result ≡ Format.affine_offset at (code kind) }
 {
     match kind {
-        Kind::Run => at + 13,
-        Kind::Scene => at + 25,
-        _ => at + 41,
+        Kind::Run => at + layout::RUN_AFFINE,
+        Kind::Scene => at + layout::SCENE_AFFINE,
+        _ => at + layout::FILL_AFFINE,
     }
 }
 
 #[tactic(auto, unfolding(crate::specs::Format::rect_offset))]
 pub fn rect_offset(at: usize, kind: Kind) -> usize
-    requires { at + 73 < 2 ^ 64 }
+    requires { at + Layout.scene_box < 2 ^ 64 }
     ensures { result ≡ Format.rect_offset at (code kind) }
 {
     match kind {
-        Kind::Run => at + 69,
-        Kind::Scene => at + 73,
-        _ => at + 9,
+        Kind::Run => at + layout::RUN_BOX,
+        Kind::Scene => at + layout::SCENE_BOX,
+        _ => at + layout::FILL_BOX,
     }
 }
 
@@ -250,72 +250,72 @@ pub fn stroke_at(s: &[u8], at: usize) -> Stroke
     }
     Stroke {
         width: little_endian::f64_at(s, at),
-        join: join_of(little_endian::byte_at(s, at + 8)),
-        miter_limit: little_endian::f64_at(s, at + 9),
-        start_cap: cap_of(little_endian::byte_at(s, at + 17)),
-        end_cap: cap_of(little_endian::byte_at(s, at + 18)),
-        dash: little_endian::u64_at(s, at + 19),
+        join: join_of(little_endian::byte_at(s, at + layout::STYLE_JOIN)),
+        miter_limit: little_endian::f64_at(s, at + layout::STYLE_MITER_LIMIT),
+        start_cap: cap_of(little_endian::byte_at(s, at + layout::STYLE_START_CAP)),
+        end_cap: cap_of(little_endian::byte_at(s, at + layout::STYLE_END_CAP)),
+        dash: little_endian::u64_at(s, at + layout::STYLE_DASH),
     }
 }
 
 // A FILL and a STROKE by themselves, and the others below: each is the format's own row of places, with its own definition.
 fn fill_at(s: &[u8], at: usize) -> DrawCommand
-    requires { at + 97 ≤ length s.now }
+    requires { at + Layout.fill_length ≤ length s.now }
     ensures { result ≡ Format.fill_at s.now at }
 {
     DrawCommand::FillPath {
-        path: little_endian::u64_at(s, at + 1),
-        bounds: rect_inside(s, at + 9),
-        transform: affine_inside(s, at + 41),
-        brush: little_endian::u64_at(s, at + 89),
+        path: little_endian::u64_at(s, at + layout::FILL_PATH),
+        bounds: rect_inside(s, at + layout::FILL_BOX),
+        transform: affine_inside(s, at + layout::FILL_AFFINE),
+        brush: little_endian::u64_at(s, at + layout::FILL_BRUSH),
     }
 }
 
 fn stroke_path_at(s: &[u8], at: usize) -> DrawCommand
-    requires { at + 124 ≤ length s.now }
+    requires { at + Layout.stroke_length ≤ length s.now }
     ensures { result ≡ Format.stroke_path_at s.now at }
 {
     DrawCommand::StrokePath {
-        path: little_endian::u64_at(s, at + 1),
-        bounds: rect_inside(s, at + 9),
-        transform: affine_inside(s, at + 41),
-        stroke: stroke_at(s, at + 97),
-        brush: little_endian::u64_at(s, at + 89),
+        path: little_endian::u64_at(s, at + layout::FILL_PATH),
+        bounds: rect_inside(s, at + layout::FILL_BOX),
+        transform: affine_inside(s, at + layout::FILL_AFFINE),
+        stroke: stroke_at(s, at + layout::STROKE_STYLE),
+        brush: little_endian::u64_at(s, at + layout::FILL_BRUSH),
     }
 }
 
 // How many glyphs the RUN at an offset announces.
 pub fn glyph_count_at(s: &[u8], at: usize) -> u16
-    requires { at + 101 < 2 ^ 64 }
-    ensures { result ≡ u16_at s.now (at + 101) }
+    requires { at + Layout.run_count < 2 ^ 64 }
+    ensures { result ≡ u16_at s.now (at + Layout.run_count) }
 {
-    little_endian::u16_at(s, at + 101)
+    little_endian::u16_at(s, at + layout::RUN_COUNT)
 }
 
 fn run_at(s: &[u8], at: usize) -> DrawCommand
-    requires { at + 103 ≤ length s.now }
+    requires { at + Layout.run_length ≤ length s.now }
     ensures { result ≡ Format.run_at s.now at }
 {
     DrawCommand::GlyphRun {
-        font: little_endian::u64_at(s, at + 1),
-        font_size: little_endian::f32_at(s, at + 9),
-        transform: affine_inside(s, at + 13),
-        brush: little_endian::u64_at(s, at + 61),
-        bounds: rect_inside(s, at + 69),
+        font: little_endian::u64_at(s, at + layout::RUN_FONT),
+        font_size: little_endian::f32_at(s, at + layout::RUN_SIZE),
+        transform: affine_inside(s, at + layout::RUN_AFFINE),
+        brush: little_endian::u64_at(s, at + layout::RUN_BRUSH),
+        bounds: rect_inside(s, at + layout::RUN_BOX),
         glyphs: u32::from(glyph_count_at(s, at)),
     }
 }
 
 fn scene_at(s: &[u8], at: usize) -> DrawCommand
-    requires { at + 105 ≤ length s.now }
+    requires { at + Layout.scene_length ≤ length s.now }
     ensures { result ≡ Format.scene_at s.now at }
 {
     DrawCommand::Scene {
-        content: little_endian::u64_at(s, at + 1),
-        generation: little_endian::u64_at(s, at + 9),
-        target: little_endian::u64_at(s, at + 17),
-        transform: affine_inside(s, at + 25),
-        bounds: rect_inside(s, at + 73),
+        content: little_endian::u64_at(s, at + layout::SCENE_CONTENT),
+        generation: little_endian::u64_at(s, at + layout::SCENE_GENERATION),
+        target: little_endian::u64_at(s, at + layout::SCENE_TARGET),
+        transform: affine_inside(s, at + layout::SCENE_AFFINE),
+        bounds: rect_inside(s, at + layout::SCENE_BOX),
     }
 }
 

@@ -24,20 +24,13 @@ use Rattle.operand_checks.specs.Operands.{operands_at}
 use Rattle.strip.specs.declared.Cursor.{Cursor}
 use Rattle.strip.specs.declared.Step.{Step}
 use Rattle.strip.specs.declared.Step.TheVariants.{Next, Clip, Pop, Draw, End}
-use Rattle.strip.specs.Steps.{due_fits, on_box, clip_step, pop_step, drawn, draw_step, run_step, unite, glyph_read, last_step, glyph_step, end_step, effect_of, step_at}
+use Rattle.strip.specs.Steps.{due_fits, on_box, opened, closed, clip_step, pop_step, drawn, draw_step, run_step, unite, glyph_read, last_step, glyph_step, end_step, effect_of, step_at}
 use Rattle.strip.proofs.Effects.{due_glyph, operands_cases}
 use Rattle.strip.specs.Reading.{on_step, read_from, Listing, noted, on_next, list_from}
 use Rattle.strip_laws.specs.Limits.{WhereRead}
 use Rattle.std.specs.Prelude.{Option, Some, None, Result, Ok, Err}
 
 -- ---- case by case
--- the cursor behind a CLIP, and behind a POP
-abbrev pub opened : Cursor → Cursor
-opened st = record { at = st.at + 33; depth = st.depth + 1; clips = st.clips + 1; commands = st.commands; glyphs = st.glyphs; due = st.due; run = st.run; united = st.united }
-
-abbrev pub closed : Cursor → Cursor
-closed st = record { at = st.at + 1; depth = st.depth - 1; clips = st.clips; commands = st.commands; glyphs = st.glyphs; due = st.due; run = st.run; united = st.united }
-
 abbrev Z : DrawCommand → Type 0
 Z d = glyph_count d ≡ 0
 

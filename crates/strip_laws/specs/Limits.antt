@@ -4,6 +4,8 @@ use Rattle.refusals.specs.declared.Refusal.{Refusal}
 use Rattle.std.specs.Prelude.{List, [], ◌∷◌, ℕ, zero, suc, ◌+◌, ◌*◌, ◌≤◌, ◌<◌, length, get_or, Result, Ok, Err}
 use Rattle.commands.specs.Bounds.{glyph_count}
 use Rattle.strip_format.specs.Format.{length_of, command_at}
+use Rattle.strip_format.specs.Layout as Layout
+use Rattle.strip_format.specs.Limits as Limits
 use Rattle.strip.specs.declared.Cursor.{Cursor}
 use Rattle.strip.specs.declared.Step.{Step}
 use Rattle.strip.specs.declared.Step.TheVariants.{Next, Clip, Pop, Draw, End}
@@ -11,10 +13,10 @@ use Rattle.strip.specs.Steps.{start_at, step_at}
 
 -- a cursor whose counts no number 6 forbids
 pub record Within (st : Cursor) : Type 0 where
-  pub depth : st.depth ≤ 32
-  pub clips : st.clips ≤ 4096
-  pub commands : st.commands ≤ 4096
-  pub glyphs : st.glyphs ≤ 16384
+  pub depth : st.depth ≤ Limits.most_depth
+  pub clips : st.clips ≤ Limits.most_clips
+  pub commands : st.commands ≤ Limits.most_commands
+  pub glyphs : st.glyphs ≤ Limits.most_glyphs
 
 -- where a strip is read, its cursor has a property
 abbrev pub WhereRead : (Cursor → Type 0) → Result Cursor Refusal → Type 0
@@ -29,7 +31,7 @@ pub record Passed (at n : ℕ) (t : Cursor) : Type 0 where
 -- a command stands whole at an offset, with its glyphs
 pub record Whole (s : List ℕ) (at : ℕ) : Type 0 where
   pub fits : at + length_of (get_or s at 0) ≤ length s
-  pub glyphs : 0 < glyph_count (command_at s at) → at + 103 + 45 * glyph_count (command_at s at) ≤ length s
+  pub glyphs : 0 < glyph_count (command_at s at) → at + Layout.run_glyphs + Layout.glyph_length * glyph_count (command_at s at) ≤ length s
 
 -- where the drawing commands of a strip begin, in the order in which they are listed: a run is listed at its last GLYPH
 abbrev pub on_offset : Result Step Refusal → (Cursor → List ℕ) → List ℕ

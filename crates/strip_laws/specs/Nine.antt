@@ -4,6 +4,8 @@ use Rattle.std.specs.Prelude.{◌≡◌, true, List, [], ◌⊎◌, ℕ, ◌+◌
 use Rattle.affine.specs.Unbounded.{UnboundedBox}
 use Rattle.commands.specs.Bounds.{transform_of, glyph_count, local_bounds}
 use Rattle.strip_format.specs.Format.{length_of, rect_at, command_at}
+use Rattle.strip_format.specs.Layout as Layout
+use Rattle.strip_format.specs.Limits as Limits
 use Rattle.operand_checks.specs.Operands.{operands_at}
 use Rattle.strip.specs.declared.Cursor.{Cursor}
 use Rattle.strip.specs.Steps.{due_fits, unite, Draws}
@@ -18,7 +20,7 @@ pub record NoneBefore (s : List ℕ) (st : Cursor) : Type 0 where
   -- 2: "no byte left"
   pub byte : st.at < length s
   -- 3: "byte not in the strip table"
-  pub known : byte_at s st ≤ 7
+  pub known : byte_at s st ≤ Layout.last_code
   -- 7: "GLYPH when none is due, or another command while glyphs are due"
   pub due : due_fits (byte_at s st) st.due ≡ true
   -- 2: "fewer bytes than the command's length"
@@ -26,8 +28,8 @@ pub record NoneBefore (s : List ℕ) (st : Cursor) : Type 0 where
   -- 3: "join or cap code above 2"; 4: "a float is infinite or NaN"
   pub operands : operands_at s st.at (byte_at s st) ≡ Ok tt
   -- 6: "4,097th drawing command or 16,385th glyph of a frame"
-  pub commands : Draws (byte_at s st) → st.commands < 4096
-  pub glyphs : byte_at s st ≡ 6 → st.glyphs < 16384
+  pub commands : Draws (byte_at s st) → st.commands < Limits.most_commands
+  pub glyphs : byte_at s st ≡ Layout.glyph_code → st.glyphs < Limits.most_glyphs
 
 -- FILL, STROKE, SCENE, and a RUN "when the count is 0": the command's own box, which a STROKE inflates first
 abbrev pub DrawnUnbounded : List ℕ → Cursor → Type 0
@@ -37,9 +39,9 @@ DrawnUnbounded s st = (glyph_count (command_at s st.at) ≡ 0) × UnboundedBox (
 -- union at its last GLYPH is that of all its glyph boxes (the law `last_united`).
 abbrev pub GlyphUnbounded : List ℕ → Cursor → Type 0
 GlyphUnbounded s st =
-    UnboundedBox (transform_of (command_at s st.run)) (rect_at s (st.at + 13))
-    ⊎ ((st.due ≡ 1) × UnboundedBox (transform_of (command_at s st.run)) (unite st (rect_at s (st.at + 13))))
+    UnboundedBox (transform_of (command_at s st.run)) (rect_at s (st.at + Layout.glyph_box))
+    ⊎ ((st.due ≡ 1) × UnboundedBox (transform_of (command_at s st.run)) (unite st (rect_at s (st.at + Layout.glyph_box))))
 
 -- 9: "a box's inflated edge or transformed corner is not finite"
 abbrev pub Nine : List ℕ → Cursor → Type 0
-Nine s st = (Draws (byte_at s st) × DrawnUnbounded s st) ⊎ ((byte_at s st ≡ 6) × GlyphUnbounded s st)
+Nine s st = (Draws (byte_at s st) × DrawnUnbounded s st) ⊎ ((byte_at s st ≡ Layout.glyph_code) × GlyphUnbounded s st)
