@@ -1,6 +1,6 @@
 -- What is asked of the entries can be met: a planner whose strips are lists of commands, and whose space is the index words lent behind its own.
 -- Assumes nothing.
-use mathlib.Core.Path.{refl}
+use mathlib.Core.Path.{◌≡◌, refl}
 use mathlib.Core.Bool.{true}
 use mathlib.Core.List.{List, ◌++◌, map}
 use Prim.Native.Nat.{ℕ}

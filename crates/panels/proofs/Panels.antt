@@ -34,6 +34,7 @@ use Rattle.panels.specs.Panels.{Planner, Frame, Apart, InBand, is_accepted, Used
 use Rattle.panels.proofs.Plans.{boxes_since, GoodLast, Call, Plans}
 use Rattle.screen.specs.declared.Screen.{Screen}
 use Rattle.screen.specs.Sizes.{fits}
+use Rattle.screen.proofs.Laws.{sizes_of}
 
 -- ---- a region's pixels, as a test and as a record
 test_covers : (r : DeviceRegion) (p q : ℕ) → has (Some r) p q ≡ true → Covers p q r
@@ -90,7 +91,7 @@ module _ (screen : Screen) (P : Planner) (good : P.Strip → Type 0) (L : Plans 
     index = L.words last f.strip f.space call
 
     regions_placed : Schedulable screen rs
-    regions_placed = subst (Schedulable screen) (sym (L.regions last f.strip f.space call)) (boxes_schedulable sizes (boxes_since P.commands screen last f.strip))
+    regions_placed = subst (Schedulable screen) (sym (L.regions last f.strip f.space call)) (boxes_schedulable (sizes_of screen sizes) (boxes_since P.commands screen last f.strip))
 
     -- S2, S3, I3
     planned : Planned P screen background paint absent last f
@@ -99,14 +100,14 @@ module _ (screen : Screen) (P : Planner) (good : P.Strip → Type 0) (L : Plans 
         record {
           apart = pairs_with (Placed screen) (Clear screen.band_height) Apart (λ r s x y c p q. no_share screen p q r s x y c) rs S.placed S.clear;
           in_band = all_map (Placed screen) (InBand screen.band_height) (λ r x. sym (row_band screen (r.y + r.height - 1) r x (omega (arith, x.on.some_height)) (omega (arith, x.on.some_height)))) rs S.placed;
-          answered = all_map (Placed screen) (λ r. refusal screen r.y words ≡ 0) (candidates_answer sizes (map bounds ns) words index.0 index.1) rs S.placed;
+          answered = all_map (Placed screen) (λ r. refusal screen r.y words ≡ 0) (candidates_answer screen sizes (map bounds ns) words index.0 index.1) rs S.placed;
         }
 
     -- L3 for each region that panel B paints
     each_shows : (px : Pixel screen.width screen.height) → All M ns → (order : List DeviceRegion) → All (λ r. In r rs) order → All (λ r. has (Some r) px.p px.q ≡ true → region_shows ns words px r ≡ shown ns px) order
     each_shows px m order i =
         all_map (λ r. In r rs) (λ r. has (Some r) px.p px.q ≡ true → region_shows ns words px r ≡ shown ns px)
-        (λ r j e. candidates_paint sizes R px ns m (L.sound last f.strip f.space call) words index.0 index.1 r (in_all (Placed screen) r rs j regions_placed.placed) (test_covers r px.p px.q e) absent background)
+        (λ r j e. candidates_paint screen sizes R px ns m (L.sound last f.strip f.space call) words index.0 index.1 r (in_all (Placed screen) r rs j regions_placed.placed) (test_covers r px.p px.q e) absent background)
         order i
 
   -- ---- the trace
@@ -122,7 +123,7 @@ module _ (screen : Screen) (P : Planner) (good : P.Strip → Type 0) (L : Plans 
   repainted none f panel_a panel_b call ord m same sh px = refl
   repainted (some old) f panel_a panel_b call ord m same sh px = sym (⊎_elim
       (λ e. e)
-      (λ e. e.0 ∙ sym (same px) ∙ sh.0 px ∙ uncovered_alike (sizes (some old) f call) R px (P.commands old) (P.commands f.strip) sh.1 m sh.2 (L.sound (some old) f.strip f.space call) (uncovered e.1) background)
+      (λ e. e.0 ∙ sym (same px) ∙ sh.0 px ∙ uncovered_alike screen (sizes (some old) f call) R px (P.commands old) (P.commands f.strip) sh.1 m sh.2 (L.sound (some old) f.strip f.space call) (uncovered e.1) background)
       (any_order (P.commands f.strip) (P.words (some old) f.strip f.space) px (shown (P.commands f.strip) px) f.order panel_b
       (each_shows (some old) f call px m f.order ord.only)))
     where

@@ -33,6 +33,7 @@ use Rattle.panels.specs.Rows.{RowAlike, SameRows}
 use Rattle.panels.proofs.Entries.{by_header, words_behind}
 use Rattle.screen.specs.declared.Screen.{Screen}
 use Rattle.screen.specs.Sizes.{fits}
+use Rattle.screen.proofs.Laws.{sizes_of}
 
 module _ (header : List ℕ) (twelve : length header ≡ 12) where
   abbrev screen : Screen
@@ -89,7 +90,7 @@ module _ (header : List ℕ) (twelve : length header ≡ 12) where
 
     rows_alike : All (RowAlike header (index_words_of x ++ rest) others) (drafted_regions x)
     rows_alike = all_map (Placed screen) (RowAlike header (index_words_of x ++ rest) others) row_alike (drafted_regions x)
-        (subst (All (Placed screen)) (sym m.regions_are) (boxes_schedulable m.sizes m.rects).placed)
+        (subst (All (Placed screen)) (sym m.regions_are) (boxes_schedulable (sizes_of screen m.sizes) m.rects).placed)
 
 pub same_rows : SameRows
 same_rows header twelve last s z e rest =
