@@ -7,7 +7,7 @@ use Rattle.refusals.specs.declared.Fault.TheVariants.{CutOff}
 use Rattle.refusals.specs.Table.{refusal}
 use Rattle.affine.specs.Affines.{bounding_box, transform_rect_bbox, finite_point, all_finite, bound_finite, try_transform}
 use Rattle.bands.specs.Bands.{regions_of, cut_to, insert_by, sort_by, join_to, join, merge_overlapping}
-use Rattle.changes.specs.Changes.{changed_glyphs, changed_bounds, diff_dirty}
+use Rattle.changes.specs.Changes.{changed_glyphs, changed_at, changed_bounds, diff_dirty}
 use Rattle.commands.specs.Bounds.{united_from, bounds, glyph_bounds}
 use Rattle.device.specs.Region.{between, intersect, union}
 use Rattle.equality.specs.Drawings.{same_fill, same_run, run_alike, same_drawing, fills_alike, runs_alike, equal, runs_alike_clipped}
