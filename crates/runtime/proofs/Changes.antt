@@ -11,7 +11,7 @@ use Rattle.geometry.specs.declared.Rect.{Rect}
 use Rattle.commands.specs.Bounds.{Command, bounds}
 use Rattle.changes.specs.Changes.{changed_bounds, diff_dirty}
 use Rattle.stored_lists.specs.Stored.{Stored, command_in, commands_in}
-use Rattle.stored_lists.proofs.Places.{commands_end, commands_next, stored_boxes}
+use Rattle.stored_lists.proofs.Places.{commands_end, commands_next, boxes_beside}
 use Rattle.rect_words.specs.Words.{box_at, boxes_to}
 use Rattle.rect_words.proofs.Lists.{boxes_last}
 
@@ -46,10 +46,10 @@ module _ (s : List ℕ) (bs : List Float) (ns is : List ℕ) where
 
   module _ (ibs : List Float) (n : ℕ) (w : Stored n s bs ns is ibs) where
     new_boxes : (q j : ℕ) → q + j ≤ n → diff_dirty [] (commands_in s bs ns is q j) ≡ boxes_to (drop (4 * q) ibs) j
-    new_boxes q j h = only_new (commands_in s bs ns is q j) ∙ stored_boxes s bs ns is ibs n w q j h
+    new_boxes q j h = only_new (commands_in s bs ns is q j) ∙ boxes_beside s bs ns is ibs n w q j h
 
     old_boxes : (p i : ℕ) → p + i ≤ n → diff_dirty (commands_in s bs ns is p i) [] ≡ boxes_to (drop (4 * p) ibs) i
-    old_boxes p i h = only_old (commands_in s bs ns is p i) ∙ stored_boxes s bs ns is ibs n w p i h
+    old_boxes p i h = only_old (commands_in s bs ns is p i) ∙ boxes_beside s bs ns is ibs n w p i h
 
     pub diff_new : (p i q j : ℕ) → q + j ≤ n → i ≤ 0 → diff_dirty (commands_in s bs ns is p i) (commands_in s bs ns is q j) ≡ boxes_to (drop (4 * q) ibs) j
     diff_new p i q j h e = ap (λ l. diff_dirty l (commands_in s bs ns is q j)) (commands_end s bs ns is p i e) ∙ new_boxes q j h

@@ -26,7 +26,7 @@ module _ (s : List ℕ) (bs : List Float) (ns is : List ℕ) where
 
   -- their boxes stand beside them
   module _ (ibs : List Float) (n : ℕ) (w : Stored n s bs ns is ibs) where
-    pub stored_boxes : (i m : ℕ) → i + m ≤ n → map bounds (commands_in s bs ns is i m) ≡ boxes_to (drop (4 * i) ibs) m
+    pub boxes_beside : (i m : ℕ) → i + m ≤ n → map bounds (commands_in s bs ns is i m) ≡ boxes_to (drop (4 * i) ibs) m
     unfolding commands_in boxes_to
-    stored_boxes i zero h = refl
-    stored_boxes i (suc m) h = (λ t. sym (w.boxed i (omega arith)) t ∷ stored_boxes (suc i) m (omega arith) t) ∙ sym (boxes_first ibs i m)
+    boxes_beside i zero h = refl
+    boxes_beside i (suc m) h = (λ t. sym (w.boxed i (omega arith)) t ∷ boxes_beside (suc i) m (omega arith) t) ∙ sym (boxes_first ibs i m)
