@@ -1,6 +1,6 @@
 -- The two cases of the answer, by the number of entries. Assumes nothing.
 use mathlib.Core.Path.{◌≡◌, refl, sym, ap, ◌∙◌}
-use mathlib.Core.Bool.{Bool}
+use mathlib.Core.Bool.{Bool, true}
 use mathlib.Core.List.{List, ◌++◌}
 use Prim.Native.Nat.{ℕ, ◌+◌, ◌^◌, ◌≤◌, ◌<◌}
 use native.Mathlib.Omega.{arith}
@@ -11,7 +11,8 @@ use lib.ListN.{length, take, drop, length-append, length-drop}
 use lib.Seq.{take_at, drop_at}
 use Rattle.lists.proofs.Picks.{pick_true, pick_false, by_le}
 use Rattle.std.proofs.Common.{Some, None}
-use Rattle.index_words.specs.Sizes.{Size}
+use Rattle.screen.specs.Sizes.{size_fits}
+use Rattle.screen.proofs.Laws.{size_limits}
 use Rattle.index_words.specs.Index.{start_of, layout, index_words}
 use Rattle.index_words.proofs.Starts.{layout_length}
 use Rattle.band_index.specs.Answer.{answer, stored}
@@ -68,8 +69,8 @@ module _ (band rows : ℕ) (numbers : List Float) (n : ℕ) where
   words = index_words band rows (boxes_to numbers n)
 
   module _ (entries : ℕ) (e : entries ≡ start_of (row_to (marks band rows numbers) n) rows) where
-    pub words_low : n ≤ 4096 → Size rows → rows + 1 + entries < 2 ^ 32
-    words_low h s = omega (arith, start_most (marks band rows numbers) n rows h)
+    pub words_low : n ≤ 4096 → size_fits rows ≡ true → rows + 1 + entries < 2 ^ 32
+    words_low h s = omega (arith, start_most (marks band rows numbers) n rows h, size_limits rows s)
 
     pub words_length : length words ≡ rows + 1 + entries
     words_length = omega (arith, index_length band rows numbers n)
@@ -81,7 +82,7 @@ module _ (band rows : ℕ) (numbers : List Float) (n : ℕ) where
     build_words room h = ap Some (sym words_length) ∙ sym (answer_fits words room (omega (arith, words_length)))
 
   -- the rows that are kept lead to the same words
-  module _ (spans : List ℕ) (S : Spanned band rows numbers spans n) (size : Size rows) where
+  module _ (spans : List ℕ) (S : Spanned band rows numbers spans n) (size : size_fits rows ≡ true) where
     same_row : (r : ℕ) → row_to (span_marks spans) n r ≡ row_to (marks band rows numbers) n r
     same_row = rows_same (span_marks spans) (marks band rows numbers) n (kept_marks band rows numbers spans n S size)
 

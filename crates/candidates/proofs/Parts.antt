@@ -1,14 +1,13 @@
 -- A part that is found lies within the words; and the number tells whether one is found. Assumes nothing.
 use mathlib.Core.Path.{◌≡◌, refl, sym, subst, ap, ◌∙◌}
-use mathlib.Core.Bool.{Bool, true, false, ◌||◌, ◌&&◌, not}
+use mathlib.Core.Bool.{Bool, true, false, ◌||◌}
 use Prim.Native.Nat.{ℕ, ◌+◌, ◌-◌, ◌/◌, ◌≤◌, ◌<◌}
 use mathlib.Core.List.{List}
 use native.Mathlib.Omega.{arith}
-use borrow.Author.Tests.{leb-false, ltb-false, le-leb, lt-leb, le-ltb, lt-ltb}
-use lib.Dec.{leb, ltb, eqb}
+use borrow.Author.Tests.{leb-false, ltb-false}
+use lib.Dec.{leb, ltb}
 use lib.ListN.{length, get_or}
 use Rattle.lists.specs.Pick.{pick}
-use Rattle.lists.proofs.Picks.{by_le}
 use Rattle.rows.specs.Rows.{row_count}
 use Rattle.std.specs.Prelude.{Result, Ok, Err}
 use Rattle.std.proofs.lemmas.Bool.{or_parts}
@@ -18,40 +17,25 @@ use Rattle.refusals.specs.declared.Refusal.{Refusal}
 use Rattle.refusals.specs.Table.{refused}
 use Rattle.refusals.proofs.Numbers.{number_positive}
 use Rattle.screen.specs.declared.Screen.{Screen}
-use Rattle.screen.specs.Sizes.{size_fits, fits}
+use Rattle.screen.specs.Sizes.{fits}
 use Rattle.candidates.specs.declared.Part.{Part}
-use Rattle.candidates.specs.Table.{bad_size, bad_sizes, bad_row, part, find_row, find, number_of, position_of, refusal}
-
--- a size is refused where it does not fit
-size_refused : (n : ℕ) → bad_size n ≡ not (size_fits n)
-unfolding bad_size size_fits
-size_refused n = go (eqb n 0)
-  where
-    above : ltb 32768 n ≡ not (leb n 32768)
-    above = by_le n 32768 (λ h. rw (le-ltb 32768 n h, le-leb n 32768 h) refl) (λ h. rw (lt-ltb 32768 n h, lt-leb n 32768 h) refl)
-
-    go : (t : Bool) → (t || ltb 32768 n) ≡ not (pick t false (leb n 32768))
-    go true = refl
-    go false = above
-
-none_fits : (x y z : Bool) → (not x || not y || not z) ≡ not (x && (y && z))
-none_fits true true z = refl
-none_fits true false z = refl
-none_fits false y z = refl
-
--- so three sizes are, where not all fit
-pub sizes_refused : (s : Screen) → bad_sizes s.width s.height s.band_height ≡ not (fits s)
-unfolding bad_sizes
-sizes_refused s = (λ i. size_refused s.width i || size_refused s.height i || size_refused s.band_height i) ∙ none_fits (size_fits s.width) (size_fits s.height) (size_fits s.band_height)
+use Rattle.candidates.specs.Table.{bad_row, part, find_row, find, number_of, position_of, refusal}
 
 -- what is not refused is a part
-found : (t : Bool) (f : Fault) (p : Part) (x : Result Part Refusal) → pick t (refused f 0) x ≡ Ok p → (t ≡ false) × (x ≡ Ok p)
-found true f p x h = absurd (subst Away h tt)
+not_refused : (f : Fault) (p : Part) → ◌≡◌ {A = Result Part Refusal} (refused f 0) (Ok p) → ⊥
+not_refused f p h = subst Away h tt
   where
     Away : Result Part Refusal → Type 0
     Away (Ok q) = ⊥
     Away (Err why) = Unit {0}
+
+found : (t : Bool) (f : Fault) (p : Part) (x : Result Part Refusal) → pick t (refused f 0) x ≡ Ok p → (t ≡ false) × (x ≡ Ok p)
+found true f p x h = absurd (not_refused f p h)
 found false f p x h = (refl, h)
+
+found_where : (t : Bool) (f : Fault) (p : Part) (x : Result Part Refusal) → pick t x (refused f 0) ≡ Ok p → x ≡ Ok p
+found_where true f p x h = h
+found_where false f p x h = absurd (not_refused f p h)
 
 -- two starts that neither fall nor pass the entries
 within : (rows r : ℕ) (p : Part) (words : List ℕ) → rows < length words → get_or words r 0 ≤ get_or words (r + 1) 0 → get_or words (r + 1) 0 ≤ length words - (rows + 1) → ◌≡◌ {A = Result Part Refusal} (Ok (part (rows + 1 + get_or words r 0) (rows + 1 + get_or words (r + 1) 0))) (Ok p) → (p.start ≤ p.end) × (p.end ≤ length words)
@@ -74,10 +58,10 @@ row_within rows r part words h =
     let w = or_parts n l v.0 in
     within rows r part words (leb-false (length words) rows w.1) (ltb-false (get_or words (r + 1) 0) (get_or words r 0) v.1) (ltb-false (length words - (rows + 1)) (get_or words (r + 1) 0) u.1) g.1
 
-pub part_within : (width height band y : ℕ) (words : List ℕ) {x : Result Part Refusal} {p : Part} → x ≡ find width height band y words → x ≡ Ok p → (p.start ≤ p.end) × (p.end ≤ length words)
+pub part_within : (s : Screen) (y : ℕ) (words : List ℕ) {x : Result Part Refusal} {p : Part} → x ≡ find s y words → x ≡ Ok p → (p.start ≤ p.end) × (p.end ≤ length words)
 unfolding find
-part_within width height band y words {p = p} e h =
-    row_within (row_count height band) (y / band) p words (found (bad_sizes width height band) Size p _ (sym e ∙ h)).1
+part_within s y words {p = p} e h =
+    row_within (row_count s.height s.band_height) (y / s.band_height) p words (found_where (fits s) Size p _ (sym e ∙ h))
 
 -- ---- the position
 placed : (t : Bool) (f : Fault) (x : Result Part Refusal) → position_of x ≡ 0 → position_of (pick t (refused f 0) x) ≡ 0
@@ -98,5 +82,5 @@ tells (Ok p) z = (p, refl)
 tells (Err why) z = absurd (omega (arith, z, number_positive why.fault))
 
 -- no refusal has the number 0: where the number is 0, there is a row
-pub zero_found : (width height band y : ℕ) (words : List ℕ) → refusal width height band y words ≡ 0 → (p : Part) × (find width height band y words ≡ Ok p)
-zero_found width height band y words = tells (find width height band y words)
+pub zero_found : (s : Screen) (y : ℕ) (words : List ℕ) → refusal s y words ≡ 0 → (p : Part) × (find s y words ≡ Ok p)
+zero_found s y words = tells (find s y words)

@@ -15,7 +15,7 @@ use Rattle.geometry.specs.Boxes.{union}
 use Rattle.geometry.specs.Pixels.{meets}
 use Rattle.geometry.proofs.Meets.{unmet_untouched, unmet_left, unmet_right}
 use Rattle.commands.specs.declared.Glyph.{Glyph}
-use Rattle.commands.specs.Bounds.{Command, bounds}
+use Rattle.commands.specs.Bounds.{Command, bounds, glyph_bounds}
 use Rattle.operand_equality.specs.Operands.{same_glyph}
 use Rattle.equality.specs.Drawings.{equal, fills_alike, runs_alike_clipped}
 use Rattle.differences.specs.Differences.{rect_symmetric_difference}
@@ -73,7 +73,7 @@ module _ {w h : ℕ} {C : Type 0} {M : Command → Type 0} {paint : Command → 
     commands_alike o n mo mn so sn u k = go (equal o n) (fills_alike o.draw n.draw) (runs_alike_clipped o n) refl refl refl u
       where
         go : (a b c : Bool) → equal o n ≡ a → fills_alike o.draw n.draw ≡ b → runs_alike_clipped o n ≡ c
-            → All (Unmet px) (pick a [] (pick b (rect_symmetric_difference (bounds o) (bounds n)) (pick c (changed_glyphs o o.glyphs n n.glyphs) (union (bounds o) (bounds n) ∷ []))))
+            → All (Unmet px) (pick a [] (pick b (rect_symmetric_difference (bounds o) (bounds n)) (pick c (changed_glyphs (glyph_bounds o) (glyph_bounds n) o.glyphs n.glyphs) (union (bounds o) (bounds n) ∷ []))))
             → paint o px k ≡ paint n px k
         go true b c e f g v = R.equals o n mo mn e px k
         go false true c e f g v = ⊎_elim

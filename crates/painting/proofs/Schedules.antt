@@ -18,53 +18,49 @@ use Rattle.commands.specs.Bounds.{Command, bounds}
 use Rattle.changes.specs.Changes.{diff_dirty}
 use Rattle.changes.proofs.Edges.{dirty_edges}
 use Rattle.rows.specs.Rows.{row_count}
-use Rattle.index_words.specs.Sizes.{Size}
+use Rattle.screen.specs.declared.Screen.{Screen}
+use Rattle.screen.specs.Sizes.{fits}
+use Rattle.screen.proofs.Laws.{Fits, sizes_of}
 use Rattle.index_words.specs.Index.{index_words}
 use Rattle.index_words.specs.Painting.{paint_all, paint_at}
 use Rattle.index_words.proofs.Painting.{Silent}
 use Rattle.candidates.specs.Table.{candidates, refusal}
 use Rattle.candidates.proofs.Plans.{plan_accepted, plan_paints}
-use Rattle.scheduler.specs.Schedule.{Sizes, schedule}
+use Rattle.scheduler.specs.Schedule.{schedule}
 use Rattle.schedule_laws.specs.Placed.{Covers, Placed}
 use Rattle.schedule_laws.proofs.AllBands.{row_band}
 use Rattle.schedule_laws.proofs.Boxes.{boxes_covered_all}
 use Rattle.painting.specs.Painters.{Pixel, Key, Rules}
 use Rattle.painting.proofs.Alike.{Sound, Unmet, lists_alike}
 
-module _ {w h b : ℕ} (s : Sizes w h b) where
-  pub width_size : Size w
-  width_size = record { some = s.some_width; limit = s.width_most }
-
-  pub height_size : Size h
-  height_size = record { some = s.some_height; limit = s.height_most }
-
-  pub band_size : Size b
-  band_size = record { some = s.some_band; limit = s.band_most }
+module _ (screen : Screen) (good : fits screen ≡ true) where
+  abbrev sizes : Fits screen
+  sizes = sizes_of screen good
 
   -- I3: `candidates` refuses no region that is placed like those of a schedule
-  pub candidates_answer : (boxes : List Rect) (words rest : List ℕ) → words ≡ index_words b (row_count h b) boxes ++ rest → (r : DeviceRegion) → Placed w h b r → refusal w h b r.y words ≡ 0
+  pub candidates_answer : (boxes : List Rect) (words rest : List ℕ) → words ≡ index_words screen.band_height (row_count screen.height screen.band_height) boxes ++ rest → (r : DeviceRegion) → Placed screen r → refusal screen r.y words ≡ 0
   candidates_answer boxes words rest e r p =
-      ap (λ l. refusal w h b r.y l) e
-      ∙ plan_accepted w h b r.y boxes rest width_size height_size band_size (omega (arith, p.on.some_height, p.on.down))
+      ap (λ l. refusal screen r.y l) e
+      ∙ plan_accepted screen r.y boxes rest good (omega (arith, p.on.some_height, p.on.down))
 
-  module _ {C : Type 0} {M : Command → Type 0} {paint : Command → Pixel w h → C → C} {mark : Key → Pixel w h → C → C} (R : Rules w h C M paint mark) (px : Pixel w h) where
+  module _ {C : Type 0} {M : Command → Type 0} {paint : Command → Pixel screen.width screen.height → C → C} {mark : Key → Pixel screen.width screen.height → C → C} (R : Rules screen.width screen.height C M paint mark) (px : Pixel screen.width screen.height) where
     -- a pixel that no scheduled region covers meets no box
-    uncovered_unmet : (rects : List Rect) → All Ordered rects → (Any (Covers px.p px.q) (schedule w h b rects) → ⊥) → All (Unmet px) rects
+    uncovered_unmet : (rects : List Rect) → All Ordered rects → (Any (Covers px.p px.q) (schedule screen rects) → ⊥) → All (Unmet px) rects
     uncovered_unmet rects o n = all_of (Unmet px) rects (λ r i. is_false (meets r px.p px.q) (λ t.
-        n (boxes_covered_all s px.p px.q px.across px.down rects o (in_any (λ c. meets c px.p px.q ≡ true) r rects i (is_true (meets r px.p px.q) t)))))
+        n (boxes_covered_all sizes px.p px.q px.across px.down rects o (in_any (λ c. meets c px.p px.q ≡ true) r rects i (is_true (meets r px.p px.q) t)))))
 
     -- L1
-    pub uncovered_alike : (os ns : List Command) → All M os → All M ns → All Sound os → All Sound ns → (Any (Covers px.p px.q) (schedule w h b (diff_dirty os ns)) → ⊥) → (k : C) → paint_all (λ c. paint c px) os k ≡ paint_all (λ c. paint c px) ns k
-    uncovered_alike os ns mo mn so sn n k = lists_alike R px (omega (arith, px.across, s.width_most)) (omega (arith, px.down, s.height_most)) os ns mo mn so sn (uncovered_unmet (diff_dirty os ns) (dirty_edges (λ x. T (ordered x)) os ns so sn) n) k
+    pub uncovered_alike : (os ns : List Command) → All M os → All M ns → All Sound os → All Sound ns → (Any (Covers px.p px.q) (schedule screen (diff_dirty os ns)) → ⊥) → (k : C) → paint_all (λ c. paint c px) os k ≡ paint_all (λ c. paint c px) ns k
+    uncovered_alike os ns mo mn so sn n k = lists_alike R px (omega (arith, px.across, sizes.width_most)) (omega (arith, px.down, sizes.height_most)) os ns mo mn so sn (uncovered_unmet (diff_dirty os ns) (dirty_edges (λ x. T (ordered x)) os ns so sn) n) k
 
     -- L3
-    pub candidates_paint : (ns : List Command) → All M ns → All Sound ns → (words rest : List ℕ) → words ≡ index_words b (row_count h b) (map bounds ns) ++ rest → (r : DeviceRegion) → Placed w h b r → Covers px.p px.q r → (d : Command) (k : C) → paint_at (λ c. paint c px) (λ i. get_or ns i d) (candidates w h b r.y words) k ≡ paint_all (λ c. paint c px) ns k
+    pub candidates_paint : (ns : List Command) → All M ns → All Sound ns → (words rest : List ℕ) → words ≡ index_words screen.band_height (row_count screen.height screen.band_height) (map bounds ns) ++ rest → (r : DeviceRegion) → Placed screen r → Covers px.p px.q r → (d : Command) (k : C) → paint_at (λ c. paint c px) (λ i. get_or ns i d) (candidates screen r.y words) k ≡ paint_all (λ c. paint c px) ns k
     candidates_paint ns m so words rest e r p c d k =
-        ap (λ l. paint_at (λ x. paint x px) (λ i. get_or ns i d) (candidates w h b r.y l) k) e
-        ∙ plan_paints (λ x. paint x px) bounds w h b r.y px.p px.q ns rest width_size height_size band_size
+        ap (λ l. paint_at (λ x. paint x px) (λ i. get_or ns i d) (candidates screen r.y l) k) e
+        ∙ plan_paints (λ x. paint x px) bounds screen r.y px.p px.q ns rest good
         (omega (arith, c.from_top, px.down))
         px.down
-        (sym (row_band w h b px.q r p c.from_top c.to_bottom))
+        (sym (row_band screen px.q r p c.from_top c.to_bottom))
         d
         (all_map Sound (λ x. Ordered (bounds x)) (λ x y. y.box) ns so)
         (all_map M (λ x. touches (bounds x) px.p px.q ≡ false → Silent (λ z. paint z px) x) (λ x y t z. R.untouched x y px t z) ns m)

@@ -21,9 +21,11 @@ use Rattle.bands.specs.Keys.{xy_key, yx_key, from_xy}
 use Rattle.bands.proofs.Keyed.{from_xy_lem, sort_numbers}
 use Rattle.bands.proofs.Joins.{join_in, join_out, merge_by_keys}
 use Rattle.bands.proofs.Cuts.{cut_append, cut_in, cut_out, any_cut}
-use Rattle.scheduler.specs.Schedule.{Sizes, band_from, bands_to, schedule_of}
+use Rattle.scheduler.specs.Schedule.{band_from, bands_to, schedule_of}
 use Rattle.schedule_laws.proofs.OneBand.{InBand, cut_fits}
 use Rattle.schedule_laws.proofs.AllBands.{band_fits}
+use Rattle.screen.specs.declared.Screen.{Screen}
+use Rattle.screen.proofs.Laws.{Fits}
 
 -- ---- a region that joins twice
 
@@ -116,12 +118,12 @@ module _ (band : DeviceRegion) (fit : (r : DeviceRegion) → InBand band r → F
 
 -- ---- all bands
 
-module _ {w h b : ℕ} (s : Sizes w h b) (k l : List DeviceRegion) (there : All (λ r. In r l) k) (back : All (λ r. In r k) l) where
-  alike_to : (j : ℕ) → bands_to w h b k j ≡ bands_to w h b l j
+module _ {screen : Screen} (s : Fits screen) (k l : List DeviceRegion) (there : All (λ r. In r l) k) (back : All (λ r. In r k) l) where
+  alike_to : (j : ℕ) → bands_to screen k j ≡ bands_to screen l j
   unfolding bands_to
   alike_to zero = refl
-  alike_to (suc j) = λ i. alike_to j i ++ band_alike (band_from w h b (j * b)) (band_fits s j) k l there back i
+  alike_to (suc j) = λ i. alike_to j i ++ band_alike (band_from screen (j * screen.band_height)) (band_fits s j) k l there back i
 
   -- S4: lists with the same members, in any order and any number, have the same schedule
-  pub schedule_alike : schedule_of w h b k ≡ schedule_of w h b l
-  schedule_alike = alike_to (row_count h b)
+  pub schedule_alike : schedule_of screen k ≡ schedule_of screen l
+  schedule_alike = alike_to (row_count screen.height screen.band_height)

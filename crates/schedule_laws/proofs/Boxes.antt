@@ -24,11 +24,13 @@ use Rattle.device.specs.declared.DeviceRegion.{DeviceRegion}
 use Rattle.device.specs.Region.{right, bottom, between, from_logical, has}
 use Rattle.device.proofs.Regions.{between_yes, has_meets, from_logical_same}
 use Rattle.bands.specs.Bands.{unless_nothing, regions_of}
-use Rattle.scheduler.specs.Schedule.{Sizes, schedule_of, schedule}
+use Rattle.scheduler.specs.Schedule.{schedule_of, schedule}
 use Rattle.schedule_laws.specs.Placed.{Covers, OnScreen, Placed, Schedulable, box_of}
 use Rattle.schedule_laws.proofs.AllBands.{schedulable, schedule_covers}
 use Rattle.schedule_laws.proofs.Alike.{schedule_alike}
 use Rattle.schedule_laws.proofs.Own.{own}
+use Rattle.screen.specs.declared.Screen.{Screen}
+use Rattle.screen.proofs.Laws.{Fits}
 
 -- ---- the regions of boxes
 
@@ -75,29 +77,29 @@ regions_in w h (r ∷ rs) ss a = go (from_logical r w h) a.0 (regions_in w h rs 
     go (Some g) x y = (region_in w h g ss x, y)
     go None x y = y
 
-module _ {w h b : ℕ} (s : Sizes w h b) where
+module _ {screen : Screen} (s : Fits screen) where
   -- S1: a pixel of the screen that some box meets is in some scheduled region
-  pub boxes_covered : (p q : ℕ) → p < w → q < h → (rects : List Rect) → Any (λ r. Ordered r × (meets r p q ≡ true)) rects → Any (Covers p q) (schedule w h b rects)
-  boxes_covered p q pw qh rects a = schedule_covers s p q (regions_of w h rects) pw qh (regions_cover w h p q s.width_most s.height_most pw qh rects a)
+  pub boxes_covered : (p q : ℕ) → p < screen.width → q < screen.height → (rects : List Rect) → Any (λ r. Ordered r × (meets r p q ≡ true)) rects → Any (Covers p q) (schedule screen rects)
+  boxes_covered p q pw qh rects a = schedule_covers s p q (regions_of screen.width screen.height rects) pw qh (regions_cover screen.width screen.height p q s.width_most s.height_most pw qh rects a)
 
   -- the same, where no edge of any box is a NaN
-  pub boxes_covered_all : (p q : ℕ) → p < w → q < h → (rects : List Rect) → All Ordered rects → Any (λ r. meets r p q ≡ true) rects → Any (Covers p q) (schedule w h b rects)
+  pub boxes_covered_all : (p q : ℕ) → p < screen.width → q < screen.height → (rects : List Rect) → All Ordered rects → Any (λ r. meets r p q ≡ true) rects → Any (Covers p q) (schedule screen rects)
   boxes_covered_all p q pw qh rects o a = boxes_covered p q pw qh rects (all_any Ordered (λ r. meets r p q ≡ true) (λ r. Ordered r × (meets r p q ≡ true)) (λ r x y. (x, y)) rects o a)
 
   -- S2, S3 and the order, whatever the boxes are
-  pub boxes_schedulable : (rects : List Rect) → Schedulable w h b (schedule w h b rects)
-  boxes_schedulable rects = schedulable s (regions_of w h rects)
+  pub boxes_schedulable : (rects : List Rect) → Schedulable screen (schedule screen rects)
+  boxes_schedulable rects = schedulable s (regions_of screen.width screen.height rects)
 
   -- S4: boxes count by what they convert to, in any order and any number
-  pub boxes_alike : (rs ss : List Rect) → All (λ r. Any (λ q. from_logical r w h ≡ from_logical q w h) ss) rs → All (λ q. Any (λ r. from_logical q w h ≡ from_logical r w h) rs) ss → schedule w h b rs ≡ schedule w h b ss
-  boxes_alike rs ss there back = schedule_alike s (regions_of w h rs) (regions_of w h ss) (regions_in w h rs ss there) (regions_in w h ss rs back)
+  pub boxes_alike : (rs ss : List Rect) → All (λ r. Any (λ q. from_logical r screen.width screen.height ≡ from_logical q screen.width screen.height) ss) rs → All (λ q. Any (λ r. from_logical q screen.width screen.height ≡ from_logical r screen.width screen.height) rs) ss → schedule screen rs ≡ schedule screen ss
+  boxes_alike rs ss there back = schedule_alike s (regions_of screen.width screen.height rs) (regions_of screen.width screen.height ss) (regions_in screen.width screen.height rs ss there) (regions_in screen.width screen.height ss rs back)
 
   -- and so by value: -0 is 0
-  convert_alike : (rs ss : List Rect) → All Ordered rs → All Ordered ss → All (λ r. Any (λ q. same_edges r q ≡ true) ss) rs → All (λ r. Any (λ q. from_logical r w h ≡ from_logical q w h) ss) rs
-  convert_alike rs ss f g a = all_both Ordered (λ r. Any (λ q. same_edges r q ≡ true) ss) (λ r. Any (λ q. from_logical r w h ≡ from_logical q w h) ss)
-      (λ r o x. all_any Ordered (λ q. same_edges r q ≡ true) (λ q. from_logical r w h ≡ from_logical q w h) (λ q u e. from_logical_same r q w h o u (edges_same r q o u e)) ss g x) rs f a
+  convert_alike : (rs ss : List Rect) → All Ordered rs → All Ordered ss → All (λ r. Any (λ q. same_edges r q ≡ true) ss) rs → All (λ r. Any (λ q. from_logical r screen.width screen.height ≡ from_logical q screen.width screen.height) ss) rs
+  convert_alike rs ss f g a = all_both Ordered (λ r. Any (λ q. same_edges r q ≡ true) ss) (λ r. Any (λ q. from_logical r screen.width screen.height ≡ from_logical q screen.width screen.height) ss)
+      (λ r o x. all_any Ordered (λ q. same_edges r q ≡ true) (λ q. from_logical r screen.width screen.height ≡ from_logical q screen.width screen.height) (λ q u e. from_logical_same r q screen.width screen.height o u (edges_same r q o u e)) ss g x) rs f a
 
-  pub boxes_equal : (rs ss : List Rect) → All Ordered rs → All Ordered ss → All (λ r. Any (λ q. same_edges r q ≡ true) ss) rs → All (λ q. Any (λ r. same_edges q r ≡ true) rs) ss → schedule w h b rs ≡ schedule w h b ss
+  pub boxes_equal : (rs ss : List Rect) → All Ordered rs → All Ordered ss → All (λ r. Any (λ q. same_edges r q ≡ true) ss) rs → All (λ q. Any (λ r. same_edges q r ≡ true) rs) ss → schedule screen rs ≡ schedule screen ss
   boxes_equal rs ss f g there back = boxes_alike rs ss (convert_alike rs ss f g there) (convert_alike ss rs g f back)
 
 -- ---- a region as a box of whole numbers converts to itself
@@ -135,11 +137,11 @@ module _ (w h : ℕ) (wh : w ≤ 32768) (hh : h ≤ 32768) where
   regions_back [] a = refl
   regions_back (r ∷ l) a = region_back r (regions_of w h (map box_of l)) a.0 ∙ ap (λ t. r ∷ t) (regions_back l a.1)
 
-module _ {w h b : ℕ} (s : Sizes w h b) where
+module _ {screen : Screen} (s : Fits screen) where
   -- S5: a schedulable list is the schedule of its regions' boxes
-  pub boxes_own : (l : List DeviceRegion) → Schedulable w h b l → schedule w h b (map box_of l) ≡ l
-  boxes_own l S = ap (schedule_of w h b) (regions_back w h s.width_most s.height_most l (all_map (Placed w h b) (OnScreen w h) (λ r p. p.on) l S.placed)) ∙ own s l S
+  pub boxes_own : (l : List DeviceRegion) → Schedulable screen l → schedule screen (map box_of l) ≡ l
+  boxes_own l S = ap (schedule_of screen) (regions_back screen.width screen.height s.width_most s.height_most l (all_map (Placed screen) (OnScreen screen.width screen.height) (λ r p. p.on) l S.placed)) ∙ own s l S
 
   -- scheduling the boxes of a schedule gives it back
-  pub boxes_twice : (rects : List Rect) → schedule w h b (map box_of (schedule w h b rects)) ≡ schedule w h b rects
-  boxes_twice rects = boxes_own (schedule w h b rects) (boxes_schedulable s rects)
+  pub boxes_twice : (rects : List Rect) → schedule screen (map box_of (schedule screen rects)) ≡ schedule screen rects
+  boxes_twice rects = boxes_own (schedule screen rects) (boxes_schedulable s rects)

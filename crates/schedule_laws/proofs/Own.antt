@@ -22,11 +22,13 @@ use Rattle.bands.proofs.Sorted.{insert_le, pairs_sort, Rises}
 use Rattle.bands.proofs.Keyed.{from_yx_lem, sort_over}
 use Rattle.bands.proofs.Joins.{ByX, sort_by_x, xy_key_leftward, merge_by_keys}
 use Rattle.bands.proofs.Cuts.{cut_none, cut_in, cut_out}
-use Rattle.scheduler.specs.Schedule.{Sizes, band_from, bands_to, schedule_of}
+use Rattle.scheduler.specs.Schedule.{band_from, bands_to, schedule_of}
 use Rattle.schedule_laws.specs.Placed.{Placed, Clear, Before, Schedulable}
 use Rattle.schedule_laws.proofs.OneBand.{Sides, sides_flip}
 use Rattle.schedule_laws.proofs.AllBands.{row_count_lem, placed_fits, schedulable}
 use Rattle.schedule_laws.proofs.Sifts.{sift, sift_empty, sift_yes, sift_no, sift_all, sift_none, all_sift, pairs_sift, sift_next}
+use Rattle.screen.specs.declared.Screen.{Screen}
+use Rattle.screen.proofs.Laws.{Fits}
 
 -- ---- regions with a column between each two join to themselves
 
@@ -78,81 +80,81 @@ part_whole band r a b c d = λ k. record { x = low r.x band.x a k; y = low r.y b
     side : (x n y e : ℕ) → y ≤ x → x + n ≤ e → min (x + n) e - max x y ≡ n
     side x n y e h g = omega arith
 
-module _ {w h b : ℕ} (s : Sizes w h b) where
+module _ {screen : Screen} (s : Fits screen) where
   abbrev in_band : ℕ → DeviceRegion → Bool
-  in_band j r = eqb (r.y / b) j
+  in_band j r = eqb (r.y / screen.band_height) j
 
   -- the regions of band j are those whose first row it has, as they are
-  cut_sift : (j : ℕ) (l : List DeviceRegion) → All (Placed w h b) l → cut_to (band_from w h b (j * b)) l ≡ sift (in_band j) l
+  cut_sift : (j : ℕ) (l : List DeviceRegion) → All (Placed screen) l → cut_to (band_from screen (j * screen.band_height)) l ≡ sift (in_band j) l
   unfolding All
-  cut_sift j [] p = cut_none (band_from w h b (j * b)) ∙ sym (sift_empty (in_band j))
-  cut_sift j (r ∷ l) p = by_le (r.y / b) j
-      (λ g. by_le j (r.y / b)
-      (λ k. let e : r.y / b ≡ j = omega arith in
-      let u : j * b ≤ r.y = subst (λ t. t * b ≤ r.y) e (div-mul-le_self r.y b) in
-      let v : bottom r ≤ j * b + b = subst (λ t. bottom r ≤ t * b + b) e p.0.one_band in
-      let d : bottom r ≤ h = p.0.on.down in
+  cut_sift j [] p = cut_none (band_from screen (j * screen.band_height)) ∙ sym (sift_empty (in_band j))
+  cut_sift j (r ∷ l) p = by_le (r.y / screen.band_height) j
+      (λ g. by_le j (r.y / screen.band_height)
+      (λ k. let e : r.y / screen.band_height ≡ j = omega arith in
+      let u : j * screen.band_height ≤ r.y = subst (λ t. t * screen.band_height ≤ r.y) e (div-mul-le_self r.y screen.band_height) in
+      let v : bottom r ≤ j * screen.band_height + screen.band_height = subst (λ t. bottom r ≤ t * screen.band_height + screen.band_height) e p.0.one_band in
+      let d : bottom r ≤ screen.height = p.0.on.down in
       let n : 0 < r.height = p.0.on.some_height in
-      let c : right r ≤ w = p.0.on.across in
+      let c : right r ≤ screen.width = p.0.on.across in
       let m : 0 < r.width = p.0.on.some_width in
-      cut_in (band_from w h b (j * b)) r l (record { across = omega arith; down = omega arith })
-      ∙ (λ i. part_whole (band_from w h b (j * b)) r (omega arith) (omega arith) u (omega arith) i ∷ cut_sift j l p.1 i)
-      ∙ sym (sift_yes (in_band j) r l (eq-eqb (r.y / b) j e)))
-      (λ k. let m : suc (r.y / b) * b ≤ j * b = mul-le-mul_right b k in
-      cut_out (band_from w h b (j * b)) r l (above_nothing r (band_from w h b (j * b)) (omega (arith, p.0.one_band, suc-mul (r.y / b) b)))
+      cut_in (band_from screen (j * screen.band_height)) r l (record { across = omega arith; down = omega arith })
+      ∙ (λ i. part_whole (band_from screen (j * screen.band_height)) r (omega arith) (omega arith) u (omega arith) i ∷ cut_sift j l p.1 i)
+      ∙ sym (sift_yes (in_band j) r l (eq-eqb (r.y / screen.band_height) j e)))
+      (λ k. let m : suc (r.y / screen.band_height) * screen.band_height ≤ j * screen.band_height = mul-le-mul_right screen.band_height k in
+      cut_out (band_from screen (j * screen.band_height)) r l (above_nothing r (band_from screen (j * screen.band_height)) (omega (arith, p.0.one_band, suc-mul (r.y / screen.band_height) screen.band_height)))
       ∙ cut_sift j l p.1
-      ∙ sym (sift_no (in_band j) r l (ne_eqb (r.y / b) j (λ z. omega arith)))))
-      (λ g. let m : suc j * b ≤ r.y / b * b = mul-le-mul_right b g in
-      cut_out (band_from w h b (j * b)) r l (above_nothing r (band_from w h b (j * b)) (omega (arith, div-mul-le_self r.y b, suc-mul j b)))
+      ∙ sym (sift_no (in_band j) r l (ne_eqb (r.y / screen.band_height) j (λ z. omega arith)))))
+      (λ g. let m : suc j * screen.band_height ≤ r.y / screen.band_height * screen.band_height = mul-le-mul_right screen.band_height g in
+      cut_out (band_from screen (j * screen.band_height)) r l (above_nothing r (band_from screen (j * screen.band_height)) (omega (arith, div-mul-le_self r.y screen.band_height, suc-mul j screen.band_height)))
       ∙ cut_sift j l p.1
-      ∙ sym (sift_no (in_band j) r l (ne_eqb (r.y / b) j (λ z. omega arith))))
+      ∙ sym (sift_no (in_band j) r l (ne_eqb (r.y / screen.band_height) j (λ z. omega arith))))
 
   -- what comes before by (y, x) is in no later band
-  pub before_band : (r q : DeviceRegion) → Fit r → Fit q → Before r q → r.y / b ≤ q.y / b
-  before_band r q f g o = (le-div_iff_mul-le {k = b} {x = r.y / b} {y = q.y} s.some_band).1 (omega (arith, div-mul-le_self r.y b, f.wide, g.wide, o))
+  pub before_band : (r q : DeviceRegion) → Fit r → Fit q → Before r q → r.y / screen.band_height ≤ q.y / screen.band_height
+  before_band r q f g o = (le-div_iff_mul-le {k = screen.band_height} {x = r.y / screen.band_height} {y = q.y} s.some_band).1 (omega (arith, div-mul-le_self r.y screen.band_height, f.wide, g.wide, o))
 
-  module _ (l : List DeviceRegion) (S : Schedulable w h b l) where
+  module _ (l : List DeviceRegion) (S : Schedulable screen l) where
     all_fit : All Fit l
-    all_fit = all_map (Placed w h b) Fit (placed_fits s) l S.placed
+    all_fit = all_map (Placed screen) Fit (placed_fits s) l S.placed
 
     sides_in : (j : ℕ) → Pairs Sides (sift (in_band j) l)
     unfolding Clear
-    sides_in j = pairs_with (λ r. r.y / b ≡ j) (Clear b) Sides (λ r q e f c. c (e ∙ sym f)) _
-        (all_sift (in_band j) Fit (λ r. r.y / b ≡ j) (λ r f e. eqb-true (r.y / b) j e) l all_fit) (pairs_sift (in_band j) (Clear b) l S.clear)
+    sides_in j = pairs_with (λ r. r.y / screen.band_height ≡ j) (Clear screen.band_height) Sides (λ r q e f c. c (e ∙ sym f)) _
+        (all_sift (in_band j) Fit (λ r. r.y / screen.band_height ≡ j) (λ r f e. eqb-true (r.y / screen.band_height) j e) l all_fit) (pairs_sift (in_band j) (Clear screen.band_height) l S.clear)
 
-    band_own : (j : ℕ) → band_regions (band_from w h b (j * b)) l ≡ sift (in_band j) l
+    band_own : (j : ℕ) → band_regions (band_from screen (j * screen.band_height)) l ≡ sift (in_band j) l
     band_own j = ap merge_overlapping (cut_sift j l S.placed)
         ∙ merge_own _ (all_sift (in_band j) Fit Fit (λ r f e. f) l all_fit) (sides_in j) (pairs_sift (in_band j) Before l S.ascends)
 
-    own_to : (j : ℕ) → bands_to w h b l j ≡ sift (λ r. ltb (r.y / b) j) l
+    own_to : (j : ℕ) → bands_to screen l j ≡ sift (λ r. ltb (r.y / screen.band_height) j) l
     unfolding bands_to
-    own_to zero = sym (sift_none (λ r. ltb (r.y / b) 0) l (all_map Fit (λ r. ltb (r.y / b) 0 ≡ false) (λ r f. le-ltb (r.y / b) 0 (omega arith)) l all_fit))
-    own_to (suc j) = (λ k. own_to j k ++ band_own j k) ∙ sift_next (λ r. r.y / b) j l (pairs_with Fit Before (λ r q. r.y / b ≤ q.y / b) before_band l all_fit S.ascends)
+    own_to zero = sym (sift_none (λ r. ltb (r.y / screen.band_height) 0) l (all_map Fit (λ r. ltb (r.y / screen.band_height) 0 ≡ false) (λ r f. le-ltb (r.y / screen.band_height) 0 (omega arith)) l all_fit))
+    own_to (suc j) = (λ k. own_to j k ++ band_own j k) ∙ sift_next (λ r. r.y / screen.band_height) j l (pairs_with Fit Before (λ r q. r.y / screen.band_height ≤ q.y / screen.band_height) before_band l all_fit S.ascends)
 
     -- S5
-    pub own : schedule_of w h b l ≡ l
-    own = own_to (row_count h b)
-        ∙ sift_all (λ r. ltb (r.y / b) (row_count h b)) l
-        (all_map (Placed w h b) (λ r. ltb (r.y / b) (row_count h b) ≡ true) (λ r p. lt-ltb (r.y / b) (row_count h b) (row_count_lem h b r.y s.some_band (omega (arith, p.on.down, p.on.some_height)))) l S.placed)
+    pub own : schedule_of screen l ≡ l
+    own = own_to (row_count screen.height screen.band_height)
+        ∙ sift_all (λ r. ltb (r.y / screen.band_height) (row_count screen.height screen.band_height)) l
+        (all_map (Placed screen) (λ r. ltb (r.y / screen.band_height) (row_count screen.height screen.band_height) ≡ true) (λ r p. lt-ltb (r.y / screen.band_height) (row_count screen.height screen.band_height) (row_count_lem screen.height screen.band_height r.y s.some_band (omega (arith, p.on.down, p.on.some_height)))) l S.placed)
 
   -- scheduling a schedule gives it back
-  pub twice : (l : List DeviceRegion) → schedule_of w h b (schedule_of w h b l) ≡ schedule_of w h b l
-  twice l = own (schedule_of w h b l) (schedulable s l)
+  pub twice : (l : List DeviceRegion) → schedule_of screen (schedule_of screen l) ≡ schedule_of screen l
+  twice l = own (schedule_of screen l) (schedulable s l)
 
   -- a list that is its own schedule is schedulable: with `own`, the two say the same
-  pub own_back : (l : List DeviceRegion) → schedule_of w h b l ≡ l → Schedulable w h b l
-  own_back l e = subst (Schedulable w h b) e (schedulable s l)
+  pub own_back : (l : List DeviceRegion) → schedule_of screen l ≡ l → Schedulable screen l
+  own_back l e = subst (Schedulable screen) e (schedulable s l)
 
 -- ---- parts of a schedulable list
 
-module _ {w h b : ℕ} (l : List DeviceRegion) (S : Schedulable w h b l) where
+module _ {screen : Screen} (l : List DeviceRegion) (S : Schedulable screen l) where
   -- the regions that pass a test
-  pub sift_schedulable : (t : DeviceRegion → Bool) → Schedulable w h b (sift t l)
-  sift_schedulable t = record { placed = all_sift t (Placed w h b) (Placed w h b) (λ r p e. p) l S.placed; clear = pairs_sift t (Clear b) l S.clear; ascends = pairs_sift t Before l S.ascends }
+  pub sift_schedulable : (t : DeviceRegion → Bool) → Schedulable screen (sift t l)
+  sift_schedulable t = record { placed = all_sift t (Placed screen) (Placed screen) (λ r p e. p) l S.placed; clear = pairs_sift t (Clear screen.band_height) l S.clear; ascends = pairs_sift t Before l S.ascends }
 
   -- the first n, and what is left behind them
-  pub take_schedulable : (n : ℕ) → Schedulable w h b (take n l)
-  take_schedulable n = record { placed = all_take (Placed w h b) n l S.placed; clear = pairs_take (Clear b) n l S.clear; ascends = pairs_take Before n l S.ascends }
+  pub take_schedulable : (n : ℕ) → Schedulable screen (take n l)
+  take_schedulable n = record { placed = all_take (Placed screen) n l S.placed; clear = pairs_take (Clear screen.band_height) n l S.clear; ascends = pairs_take Before n l S.ascends }
 
-  pub drop_schedulable : (n : ℕ) → Schedulable w h b (drop n l)
-  drop_schedulable n = record { placed = all_drop (Placed w h b) n l S.placed; clear = pairs_drop (Clear b) n l S.clear; ascends = pairs_drop Before n l S.ascends }
+  pub drop_schedulable : (n : ℕ) → Schedulable screen (drop n l)
+  drop_schedulable n = record { placed = all_drop (Placed screen) n l S.placed; clear = pairs_drop (Clear screen.band_height) n l S.clear; ascends = pairs_drop Before n l S.ascends }

@@ -4,6 +4,7 @@ use mathlib.Core.List.{[], ◌∷◌}
 use Prim.Native.Nat.{ℕ}
 use Rattle.device.specs.declared.DeviceRegion.{DeviceRegion}
 use Rattle.device.specs.Region.{between, intersect, union}
+use Rattle.screen.specs.Sizes.{screen}
 use Rattle.bands.specs.Bands.{cut_to, insert_by, sort_by, join_to, join, merge_overlapping}
 use Rattle.std.proofs.Common.{Some, None}
 use Rattle.scheduler.specs.Schedule.{bands_to, schedule_of, pixels_of, words_of_regions, totals_of}
@@ -12,7 +13,7 @@ abbrev at : ℕ → ℕ → ℕ → ℕ → DeviceRegion
 at x y w h = record { x = x; y = y; width = w; height = h }
 
 -- three regions of a screen of 40 by 40 in bands of 16: the first two touch, the third crosses two band edges
-bands : schedule_of 40 40 16 (at 0 0 4 4 ∷ at 4 8 4 4 ∷ at 20 15 1 18 ∷ []) ≡ at 0 0 8 12 ∷ at 20 15 1 1 ∷ at 20 16 1 16 ∷ at 20 32 1 1 ∷ []
+bands : schedule_of (screen 40 40 16) (at 0 0 4 4 ∷ at 4 8 4 4 ∷ at 20 15 1 18 ∷ []) ≡ at 0 0 8 12 ∷ at 20 15 1 1 ∷ at 20 16 1 16 ∷ at 20 32 1 1 ∷ []
 unfolding bands_to merge_overlapping sort_by insert_by join join_to cut_to intersect union between
 bands = refl
 

@@ -46,4 +46,3 @@ module _ (l : List DeviceRegion) (before after : List ℕ) where
   -- the words in front
   pub front_words : (count pixels : ℕ) → Listed l before count pixels after → take (4 * count) after ≡ words_of_regions l
   front_words count pixels a = ap (take (4 * count)) a.words_are ∙ take_at (words_of_regions l) (drop (4 * count) before) (4 * count) (words_length l ∙ ap (λ t. 4 * t) (sym a.count_is))
-

@@ -2,7 +2,7 @@
 // lends.
 #![tactic(auto)]
 
-ghost use Rattle.std.specs.Prelude.{◌≡◌, map, ◌++◌, ◌≤◌, ◌<◌, ◌*◌, ◌/◌, ◌+◌, length, take, drop};
+ghost use Rattle.std.specs.Prelude.{◌≡◌, true, map, ◌++◌, ◌≤◌, ◌<◌, ◌*◌, ◌/◌, ◌+◌, length, take, drop};
 ghost use Rattle.bands.specs.Bands as Bands;
 ghost use Rattle.bands.specs.Keys as Keys;
 ghost use Rattle.rect_words.specs.Words as Words;

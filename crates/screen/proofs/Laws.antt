@@ -1,8 +1,10 @@
 -- What sizes are that fit. Assumes nothing.
-use Rattle.std.proofs.Common.{◌≡◌, ℕ, ◌<◌, ◌≤◌, Bool, true, false, ◌&&◌, eqb, leb, refl, arith, leb-true}
-use borrow.Author.Tests.{eqb-false}
+use Rattle.std.proofs.Common.{◌≡◌, ℕ, ◌+◌, ◌-◌, ◌/◌, ◌<◌, ◌≤◌, Bool, true, false, ◌&&◌, eqb, leb, refl, ap, ◌∙◌, arith, leb-true}
+use native.Mathlib.Nat.{add-div_right, div-le_self}
+use borrow.Author.Tests.{eqb-false, ne_eqb, le-leb}
 use mathlib.Core.Bool.{false≢true}
 use Rattle.lists.specs.Pick.{pick}
+use Rattle.rows.specs.Rows.{row_count}
 use Rattle.std.proofs.lemmas.Bool.{and_parts}
 use Rattle.screen.specs.declared.Screen.{Screen}
 use Rattle.screen.specs.Sizes.{size_fits, fits}
@@ -14,6 +16,10 @@ size_limits n e = go (eqb n 0) refl e
     go : (t : Bool) → eqb n 0 ≡ t → pick t false (leb n 32768) ≡ true → (0 < n) × (n ≤ 32768)
     go true q e = absurd (false≢true e)
     go false q e = let z = eqb-false n 0 q in (omega (arith, z), leb-true n 32768 e)
+
+pub size_from : (n : ℕ) → 0 < n → n ≤ 32768 → size_fits n ≡ true
+unfolding size_fits
+size_from n s l = simp (ne_eqb n 0 (λ e. omega arith), le-leb n 32768 l)
 
 -- a screen whose sizes are from 1 to 32,768
 pub record Fits (s : Screen) : Type 0 where
@@ -32,3 +38,13 @@ sizes_of s e =
     let b = size_limits s.height u.0 in
     let c = size_limits s.band_height u.1 in
     record { some_width = a.0; width_most = a.1; some_height = b.0; height_most = b.1; some_band = c.0; band_most = c.1 }
+
+-- a screen has as many rows as a size allows
+pub rows_size : (s : Screen) → fits s ≡ true → size_fits (row_count s.height s.band_height) ≡ true
+rows_size s e =
+    let f = sizes_of s e in
+    let h = s.height in
+    let b = s.band_height in
+    let z : h + (b - 1) ≡ h - 1 + b = omega (arith, f.some_height, f.some_band) in
+    let k : (h + (b - 1)) / b ≡ (h - 1) / b + 1 = ap (λ (n : ℕ). n / b) z ∙ add-div_right (h - 1) f.some_band in
+    size_from (row_count h b) (omega (arith, k)) (omega (arith, k, f.some_height, f.height_most, div-le_self (h - 1) b))

@@ -1,13 +1,18 @@
 -- `schedule` meets its contract: the first j bands are written. Assumes nothing.
 use Rattle.std.proofs.Common.{◌*◌, refl, ◌∙◌, arith}
+use Rattle.screen.proofs.Laws.{sizes_of}
 use Rattle.bands.proofs.Cuts.{regions_fit}
 use Rattle.scheduler.proofs.Rows.{banded, taken, going_start, pixels_low, m_few, p_few, going_full, going_next}
 use Rattle.scheduler.proofs.Writes.{part_length, put_length, put_part}
 use Rattle.scheduler.proofs.schedule.Goals as goal
 
+pub band_count-j-end-requires : goal.band_count-j-end-requires
+band_count-j-end-requires c = (sizes_of c.args.screen c.requires.sizes).some_band
+
 pub loop-j-init : goal.loop-j-init
 loop-j-init c =
-    (c.band_count-j-end.ensures, refl, going_start _ _ _ _ _ c.requires.sizes (regions_fit _ _ c.requires.sizes.width_most c.requires.sizes.height_most _))
+    let s = sizes_of c.args.screen c.requires.sizes in
+    (c.band_count-j-end.ensures, refl, going_start _ _ _ s (regions_fit _ _ s.width_most s.height_most _))
 
 pub returns-then-room-count : goal.returns-then-room-count
 returns-then-room-count c =

@@ -8,4 +8,4 @@ use Rattle.scheduler.proofs.schedule.Given as goal
 use Rattle.rect_words.specs.Words.{boxes_to}
 
 abbrev pub invariant-loop-j : goal.invariant-loop-j
-invariant-loop-j l = (l.j-end ≡ row_count l.screen.height l.screen.band_height) × (length l.work ≡ length l.initial.work) × Going l.screen.width l.screen.height l.screen.band_height (regions_of l.screen.width l.screen.height (boxes_to l.rects (length l.rects / 4))) l.initial.out l.out l.j l.count l.pixels
+invariant-loop-j l = (l.j-end ≡ row_count l.screen.height l.screen.band_height) × (length l.work ≡ length l.initial.work) × Going l.screen (regions_of l.screen.width l.screen.height (boxes_to l.rects (length l.rects / 4))) l.initial.out l.out l.j l.count l.pixels
