@@ -4,14 +4,12 @@ use Rattle.std.specs.Prelude.{Result, Ok, Err}
 use Rattle.refusals.specs.declared.Fault.TheVariants.{TrailingByte}
 use Rattle.refusals.specs.declared.Refusal.{Refusal}
 use Rattle.refusals.specs.Table.{refused}
-use Rattle.std.proofs.Common.{◌≡◌, ℕ, zero, suc, ◌+◌, ◌*◌, ◌/◌, ◌<◌, min, true, ◌&&◌, ltb, leb, List, [], ◌∷◌, map, length, get_or, drop, sym, refl, ap, ◌∙◌, subst, arith, get_or-drop, leb-true}
-use lib.Ieee.{Float, nan}
+use Rattle.std.proofs.Common.{◌≡◌, ℕ, zero, suc, ◌+◌, ◌*◌, ◌/◌, ◌<◌, min, true, ◌&&◌, ltb, leb, List, [], ◌∷◌, map, length, drop, sym, refl, ap, ◌∙◌, subst, arith, leb-true}
+use lib.Ieee.{Float}
 use lib.Ieee.Fits.{and_l, and_r}
 use Rattle.lists.proofs.Bools.{holds, is_true}
 use Rattle.lists.proofs.Picks.{pick_cases}
-use Rattle.geometry.specs.declared.Rect.{Rect}
-use Rattle.rect_words.proofs.Lists.{box_from}
-use Rattle.rect_words.specs.Words.{rect_from, box_at, boxes_to}
+use Rattle.rect_words.specs.Words.{boxes_to}
 use Rattle.commands.specs.Bounds.{Command, bounds}
 use Rattle.strip.specs.declared.Cursor.{Cursor}
 use Rattle.strip.specs.Reading.{read_strip}
@@ -19,9 +17,9 @@ use Rattle.strip_laws.specs.Limits.{Within, WhereRead}
 use Rattle.strip_laws.proofs.Limits.{strip_within}
 use Rattle.frame.specs.declared.Strips.{Strips}
 use Rattle.frame.specs.Frame.{first_of, both_of, with_old, then_end, then_new, then_strips, ended}
-use Rattle.stored_lists.specs.Stored.{command_in, commands_in, Stored}
+use Rattle.stored_lists.specs.Stored.{commands_in, Stored}
+use Rattle.stored_lists.proofs.Places.{boxes_beside}
 use Rattle.recording.specs.Recorded.{Space, SameLengths, Room}
-use Rattle.band_index.proofs.Reading.{boxes_are}
 use Rattle.plans.specs.Drafts.{Items}
 use Rattle.plans.specs.Answers.{items_fit}
 use Rattle.frame_drafts.specs.Scratch.{lent_scratch}
@@ -80,22 +78,6 @@ unfolding commands_in
 list_length s bs ns is zero i = refl
 list_length s bs ns is (suc n) i = ap suc (list_length s bs ns is n (suc i))
 
-list_at : (s : List ℕ) (bs : List Float) (ns is : List ℕ) (n i j : ℕ) (d : Rect) → j < n → get_or (map bounds (commands_in s bs ns is i n)) j d ≡ bounds (command_in s bs ns is (i + j))
-unfolding commands_in
-list_at s bs ns is zero i j d h = absurd (omega arith)
-list_at s bs ns is (suc n) i zero d h = let e : i ≡ i + 0 = omega arith in ap (λ (k : ℕ). bounds (command_in s bs ns is k)) e
-list_at s bs ns is (suc n) i (suc j) d h = let e : suc i + j ≡ i + suc j = omega arith in list_at s bs ns is n (suc i) j d (omega arith) ∙ ap (λ (k : ℕ). bounds (command_in s bs ns is k)) e
-
-map_length : (l : List Command) → length (map bounds l) ≡ length l
-map_length [] = refl
-map_length (c ∷ l) = ap suc (map_length l)
-
 module _ (s : List ℕ) (bs : List Float) (ns is : List ℕ) (ibs : List Float) (first n : ℕ) (h : Stored (first + n) s bs ns is ibs) where
   pub stored_boxes : (cs : List Command) → commands_in s bs ns is first n ≡ cs → boxes_to (drop (4 * first) ibs) n ≡ map bounds cs
-  stored_boxes cs e =
-      let d : Rect = rect_from ibs 0 in
-      let k : length (map bounds (commands_in s bs ns is first n)) ≡ n = map_length (commands_in s bs ns is first n) ∙ list_length s bs ns is n first in
-      ap (boxes_to (drop (4 * first) ibs)) (sym k)
-      ∙ boxes_are (drop (4 * first) ibs) (map bounds (commands_in s bs ns is first n)) d (λ i l. let u : i < n = omega arith in
-      box_from ibs first i (first + i) refl ∙ h.boxed (first + i) (omega arith) ∙ sym (list_at s bs ns is n first i d u))
-      ∙ ap (map bounds) e
+  stored_boxes cs e = sym (boxes_beside s bs ns is ibs (first + n) h first n (omega arith)) ∙ ap (map bounds) e

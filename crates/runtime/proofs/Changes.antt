@@ -1,6 +1,6 @@
 -- What changed between two lists, step by step, and the same boxes read from lent space. Assumes nothing.
 use mathlib.Core.Path.{◌≡◌, refl, sym, ap, ◌∙◌}
-use mathlib.Core.List.{List, [], ◌∷◌, ◌++◌, append-nil}
+use mathlib.Core.List.{List, [], ◌∷◌, ◌++◌, map, append-nil}
 use mathlib.Core.Logic.{◌⊎◌, inl, inr, ⊎_elim}
 use Prim.Native.Nat.{ℕ, zero, suc, ◌+◌, ◌-◌, ◌*◌, ◌≤◌, ◌<◌, min}
 use native.Mathlib.Omega.{arith}
@@ -8,11 +8,12 @@ use lib.ListN.{drop}
 use lib.Ieee.{Float}
 use Rattle.lists.proofs.Picks.{le_or_lt}
 use Rattle.geometry.specs.declared.Rect.{Rect}
+use Rattle.commands.specs.Bounds.{Command, bounds}
 use Rattle.changes.specs.Changes.{changed_bounds, diff_dirty}
 use Rattle.stored_lists.specs.Stored.{Stored, command_in, commands_in}
-use Rattle.stored_lists.proofs.Places.{commands_end, commands_next}
+use Rattle.stored_lists.proofs.Places.{commands_end, commands_next, boxes_beside}
 use Rattle.rect_words.specs.Words.{box_at, boxes_to}
-use Rattle.rect_words.proofs.Lists.{boxes_first, boxes_last}
+use Rattle.rect_words.proofs.Lists.{boxes_last}
 
 -- ---- the boxes of a remainder
 pub boxes_end : (ibs : List Float) (p i : ℕ) → i ≤ 0 → boxes_to (drop (4 * p) ibs) i ≡ []
@@ -27,22 +28,28 @@ boxes_more ibs p i e =
     ap (boxes_to (drop (4 * p) ibs)) v ∙ boxes_last ibs p i (p + i) refl ∙ ap (λ (c : Rect). boxes_to (drop (4 * p) ibs) i ++ (c ∷ [])) (sym e)
 
 -- ---- lists
+-- only one goes on
+only_new : (cs : List Command) → diff_dirty [] cs ≡ map bounds cs
+unfolding diff_dirty
+only_new [] = refl
+only_new (c ∷ cs) = ap (λ l. bounds c ∷ l) (only_new cs)
+
+only_old : (cs : List Command) → diff_dirty cs [] ≡ map bounds cs
+unfolding diff_dirty
+only_old [] = refl
+only_old (c ∷ cs) = ap (λ l. bounds c ∷ l) (only_old cs)
+
 module _ (s : List ℕ) (bs : List Float) (ns is : List ℕ) where
   pub diff_next : (p i q j : ℕ) → 0 < i → (j ≡ 0 → ⊥) → diff_dirty (commands_in s bs ns is p i) (commands_in s bs ns is q j) ≡ changed_bounds (command_in s bs ns is p) (command_in s bs ns is q) ++ diff_dirty (commands_in s bs ns is (p + 1) (i - 1)) (commands_in s bs ns is (q + 1) (j - 1))
   unfolding diff_dirty
   diff_next p i q j h k = λ t. diff_dirty (commands_next s bs ns is p i h t) (commands_next s bs ns is q j (omega arith) t)
 
   module _ (ibs : List Float) (n : ℕ) (w : Stored n s bs ns is ibs) where
-    -- only the new list goes on
     new_boxes : (q j : ℕ) → q + j ≤ n → diff_dirty [] (commands_in s bs ns is q j) ≡ boxes_to (drop (4 * q) ibs) j
-    unfolding diff_dirty commands_in boxes_to
-    new_boxes q zero h = refl
-    new_boxes q (suc j) h = (λ t. sym (w.boxed q (omega arith)) t ∷ new_boxes (suc q) j (omega arith) t) ∙ sym (boxes_first ibs q j)
+    new_boxes q j h = only_new (commands_in s bs ns is q j) ∙ boxes_beside s bs ns is ibs n w q j h
 
     old_boxes : (p i : ℕ) → p + i ≤ n → diff_dirty (commands_in s bs ns is p i) [] ≡ boxes_to (drop (4 * p) ibs) i
-    unfolding diff_dirty commands_in boxes_to
-    old_boxes p zero h = refl
-    old_boxes p (suc i) h = (λ t. sym (w.boxed p (omega arith)) t ∷ old_boxes (suc p) i (omega arith) t) ∙ sym (boxes_first ibs p i)
+    old_boxes p i h = only_old (commands_in s bs ns is p i) ∙ boxes_beside s bs ns is ibs n w p i h
 
     pub diff_new : (p i q j : ℕ) → q + j ≤ n → i ≤ 0 → diff_dirty (commands_in s bs ns is p i) (commands_in s bs ns is q j) ≡ boxes_to (drop (4 * q) ibs) j
     diff_new p i q j h e = ap (λ l. diff_dirty l (commands_in s bs ns is q j)) (commands_end s bs ns is p i e) ∙ new_boxes q j h

@@ -47,8 +47,8 @@ opened st = record st { at = st.at + Layout.clip_length; depth = st.depth + 1; c
 abbrev pub closed : Cursor → Cursor
 closed st = record st { at = st.at + Layout.pop_length; depth = st.depth - 1 }
 
-abbrev pub ended : Cursor → Cursor
-ended st = record st { at = st.at + Layout.end_length }
+abbrev pub past_end : Cursor → Cursor
+past_end st = record st { at = st.at + Layout.end_length }
 
 -- CLIP. 6: "33rd open clip, 4,097th clip pushed"
 unfoldable pub clip_step : List ℕ → Cursor → Result Step Refusal
@@ -112,7 +112,7 @@ glyph_step s st =
 
 -- END
 abbrev pub end_step : Cursor → Result Step Refusal
-end_step st = Ok (End (ended st))
+end_step st = Ok (End (past_end st))
 
 -- "effect", by the command's byte
 unfoldable pub effect_of : List ℕ → Cursor → ℕ → Result Step Refusal

@@ -26,7 +26,7 @@ use Rattle.operand_checks.specs.Operands.{operands_at}
 use Rattle.strip.specs.declared.Cursor.{Cursor}
 use Rattle.strip.specs.declared.Step.{Step}
 use Rattle.strip.specs.declared.Step.TheVariants.{Next, Clip, Pop, Draw, End}
-use Rattle.strip.specs.Steps.{due_fits, on_box, ended, clip_step, pop_step, drawn, draw_step, run_step, unite, glyph_read, last_step, glyph_step, end_step, effect_of, step_at}
+use Rattle.strip.specs.Steps.{due_fits, on_box, past_end, clip_step, pop_step, drawn, draw_step, run_step, unite, glyph_read, last_step, glyph_step, end_step, effect_of, step_at}
 use Rattle.strip.proofs.Effects.{due_glyph, step_past, step_unknown, step_due, step_short, step_operands, step_effect, operands_cases}
 use Rattle.strip.proofs.Moves.{at_byte}
 use Rattle.strip_laws.proofs.Runs.{InRun}
@@ -95,7 +95,7 @@ module _ (s r : List ℕ) (by : ℕ) (same : (i j : ℕ) → j ≡ by + i → i 
         go None = turns e.at_is
 
     end_alike : R (end_step st) (end_step to)
-    end_alike = ends {c = ended st} {d = ended to} (record { at_is = omega (arith, e.at_is); depth_is = e.depth_is; clips_are = e.clips_are; commands_are = e.commands_are; glyphs_are = e.glyphs_are; due_is = e.due_is; run_is = e.run_is; united_is = e.united_is })
+    end_alike = ends {c = past_end st} {d = past_end to} (record { at_is = omega (arith, e.at_is); depth_is = e.depth_is; clips_are = e.clips_are; commands_are = e.commands_are; glyphs_are = e.glyphs_are; due_is = e.due_is; run_is = e.run_is; united_is = e.united_is })
 
     clip_alike : st.at + 33 ≤ length s → R (clip_step s st) (clip_step r to)
     unfolding clip_step
