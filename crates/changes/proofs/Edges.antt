@@ -1,6 +1,6 @@
 -- Changes have no new edges: what holds of every edge of the commands' boxes and of their glyphs' boxes holds of the changed ones.
 -- Assumes nothing.
-use mathlib.Core.List.{List, [], ◌∷◌}
+use mathlib.Core.List.{List, [], ◌∷◌, map}
 use lib.Ieee.{Float}
 use Rattle.lists.specs.Pick.{pick}
 use Rattle.lists.specs.Members.{All}
@@ -48,6 +48,9 @@ module _ (P : Float → Type 0) where
   symmetric_edges r s f g = all_append (Edges P) (rect_difference r s) (rect_difference s r) (difference_edges r s f g) (difference_edges s r g f)
 
   -- ---- glyphs
+  every_edges : (f : Glyph → Rect) (l : List Glyph) → All (λ g. Edges P (f g)) l → All (Edges P) (map f l)
+  every_edges f l h = rw (all_mapped f (Edges P) l) h
+
   module _ (old new : Glyph → Rect) where
     abbrev OldEdges : Glyph → Type 0
     OldEdges g = Edges P (old g)
@@ -57,8 +60,8 @@ module _ (P : Float → Type 0) where
 
     glyphs_edges : (gs hs : List Glyph) → All OldEdges gs → All NewEdges hs → All (Edges P) (changed_glyphs old new gs hs)
     unfolding changed_at changed_glyphs All
-    glyphs_edges [] hs f g = rw (all_mapped new (Edges P) hs) g
-    glyphs_edges (j ∷ gs) [] f g = rw (all_mapped old (Edges P) (j ∷ gs)) f
+    glyphs_edges [] hs f g = every_edges new hs g
+    glyphs_edges (j ∷ gs) [] f g = every_edges old (j ∷ gs) f
     glyphs_edges (j ∷ gs) (h ∷ hs) f g =
         let u = union (old j) (new h) in
         all_append (Edges P) (pick (same_glyph j h) [] (u ∷ [])) (changed_glyphs old new gs hs)
