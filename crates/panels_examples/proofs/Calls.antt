@@ -14,7 +14,7 @@ use Rattle.equality.specs.Drawings.{same_fill, same_run, run_alike, same_drawing
 use Rattle.floats.specs.Next.{next_down}
 use Rattle.floats.specs.Order.{larger, smaller}
 use Rattle.floats.specs.Whole.{whole, floor, ceil}
-use Rattle.screen.specs.Sizes.{size_fits}
+use Rattle.screen.specs.Sizes.{screen, size_fits}
 use Rattle.frame.specs.Frame.{header_of, ended, both_of, first_of}
 use Rattle.geometry.specs.Boxes.{positive_area, same_edges}
 use Rattle.index_words.specs.Index.{stands_in, places, row_list, entries_to, start_of, starts_to, layout, index_words}
@@ -38,7 +38,7 @@ abbrev pub index : List ℕ
 index = 0 ∷ 1 ∷ 3 ∷ 0 ∷ 0 ∷ 1 ∷ []
 
 abbrev pub first_draft : Draft
-first_draft = record { rects = screen_rect 8 8 ∷ []; regions = region 0 0 8 4 ∷ region 0 4 8 4 ∷ []; words = index; emitted = 2 }
+first_draft = record { rects = screen_rect (screen 8 8 4) ∷ []; regions = region 0 0 8 4 ∷ region 0 4 8 4 ∷ []; words = index; emitted = 2 }
 
 abbrev pub turn_draft : Draft
 turn_draft = record { rects = box (whole 0) (whole 2) 6 6 ∷ box (whole 4) (whole 5) 7 7 ∷ []; regions = upper ∷ lower ∷ []; words = index; emitted = 2 }
