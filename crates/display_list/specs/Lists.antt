@@ -24,7 +24,8 @@ clip_numbers d bs ns = pick (clip_room d.clips d.top (length bs) (length ns)) (s
 
 -- where no clip is open nothing is closed; a strip with such a POP is refused (number 5)
 unfoldable pub popped_clip : ListState → List ℕ → ListState
-popped_clip d ns = pick (eqb d.depth 0) d (record { clips = d.clips; top = pick (eqb d.top 0) 0 (below_at ns d.top); depth = d.depth - 1; commands = d.commands })
+popped_clip d ns =
+    pick (eqb d.depth 0) d (record { clips = d.clips; top = pick (eqb d.top 0) 0 (below_at ns d.top); depth = d.depth - 1; commands = d.commands })
 
 -- a box cut by the open clips, where the space holds them: "intersected with the active clip box where a clip is open"
 unfoldable pub open_rect : ListState → List Float → Rect → Rect

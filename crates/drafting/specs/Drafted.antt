@@ -37,7 +37,8 @@ judged z d = pick (draft_fits z d) (counts d) (refused NoRoom 0)
 
 -- the same, of the index words alone, for a frame whose rectangles, regions and pixels are counted
 abbrev pub indexed : List ℕ → ℕ → ℕ → ℕ → ℕ → ℕ → Result Plan Refusal
-indexed words room rects commands regions pixels = pick (leb (length words) room) (Ok (planned rects (length words) (work_of commands regions pixels))) (refused NoRoom 0)
+indexed words room rects commands regions pixels =
+    pick (leb (length words) room) (Ok (planned rects (length words) (work_of commands regions pixels))) (refused NoRoom 0)
 
 -- the words of a draft stand in front of what was lent for it
 pub record Stands (d : Draft) (rs : List Float) (gs ws : List ℕ) : Type 0 where

@@ -25,7 +25,8 @@ same_stroked path b t stroke brush (Scene content' generation' target' t' b') = 
 
 -- how many glyphs there are is for their lists to tell
 unfoldable pub same_run : ℕ → Float → Affine → ℕ → Rect → DrawCommand → Bool
-same_run font size t brush b (GlyphRun font' size' t' brush' b' n') = (eqb font font' && eq size size') && (same_affine t t' && eqb brush brush') && same_edges b b'
+same_run font size t brush b (GlyphRun font' size' t' brush' b' n') =
+    (eqb font font' && eq size size') && (same_affine t t' && eqb brush brush') && same_edges b b'
 same_run font size t brush b (FillPath path' b' t' brush') = false
 same_run font size t brush b (StrokePath path' b' t' stroke' brush') = false
 same_run font size t brush b (Scene content' generation' target' t' b') = false

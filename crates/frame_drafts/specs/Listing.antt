@@ -14,7 +14,9 @@ use Rattle.frame_drafts.specs.Scratch.{lent_scratch}
 use Rattle.rect_words.specs.Words.{boxes_to}
 
 -- the draft is that of rectangles and commands that are in scratch, and the items fit in the scratch z that was lent
-pub record Stand (screen : Screen) (o : Outcome) (z : Space) (glyphs : List ℕ) (before rs : List Float) (is : List ℕ) (ibs : List Float) (c : Changed) : Type 0 where
+pub record Stand
+    (screen : Screen) (o : Outcome) (z : Space) (glyphs : List ℕ) (before rs : List Float) (is : List ℕ) (ibs : List Float) (c : Changed)
+    : Type 0 where
   pub items : Items
   pub rects : List Rect
   pub commands : List Command

@@ -81,7 +81,9 @@ fn items_fit(
     item_boxes: &[f64],
     glyph_items: &[u64],
 ) -> bool
-    ensures { result ≡ items_fit (lent_scratch boxes.now below.now items.now item_boxes.now glyph_items.now 0 0 0) (record { commands = count.commands; glyphs = count.glyphs; clips = count.clips }) }
+    ensures { result
+        ≡ items_fit (lent_scratch boxes.now below.now items.now item_boxes.now glyph_items.now 0 0 0)
+        (record { commands = count.commands; glyphs = count.glyphs; clips = count.clips }) }
 {
     let command_room = (items.len() / 2).min(item_boxes.len() / 4) as u64;
     let glyph_room = glyph_items.len() as u64;
@@ -112,7 +114,8 @@ fn list_first(
     glyph_items: &[u64],
     rects: &mut [f64],
 ) -> Result<Changed, Refusal>
-    ensures { Lists screen (on_first screen s.now (first_of s.now)) (space boxes.old below.old items.old item_boxes.old) glyph_items.now rects.old rects.new items.new item_boxes.new result }
+    ensures { Lists screen (on_first screen s.now (first_of s.now)) (space boxes.old below.old items.old item_boxes.old) glyph_items.now rects.old rects.new
+        items.new item_boxes.new result }
 {
     let new = recording::record_first(s, boxes, below, items, item_boxes)?;
     let count = Items::from(new);
@@ -138,7 +141,9 @@ fn list_next(
     glyph_items: &[u64],
     rects: &mut [f64],
 ) -> Result<Changed, Refusal>
-    ensures { (screen : Screen) → Lists screen (on_both screen s.now (both_of s.now)) (space boxes.old below.old items.old item_boxes.old) glyph_items.now rects.old rects.new items.new item_boxes.new result }
+    ensures { (screen : Screen)
+        → Lists screen (on_both screen s.now (both_of s.now)) (space boxes.old below.old items.old item_boxes.old) glyph_items.now rects.old rects.new
+        items.new item_boxes.new result }
 {
     let both = recording::record_both(s, boxes, below, items, item_boxes)?;
     let count = Items::from(both);
@@ -170,7 +175,8 @@ fn list_frame(
     glyph_items: &[u64],
     rects: &mut [f64],
 ) -> Result<Changed, Refusal>
-    ensures { Lists screen (on_strips entry screen s.now) (space boxes.old below.old items.old item_boxes.old) glyph_items.now rects.old rects.new items.new item_boxes.new result }
+    ensures { Lists screen (on_strips entry screen s.now) (space boxes.old below.old items.old item_boxes.old) glyph_items.now rects.old rects.new items.new
+        item_boxes.new result }
 {
     match entry {
         Entry::First => list_first(
@@ -204,7 +210,8 @@ pub fn draft_frame(
     words: &mut [u32],
 ) -> Result<Plan, Refusal>
     requires { Roomy rects.old work.old regions.old words.old room.rects room.regions room.words }
-    ensures answer { result ≡ answer_of (lent_scratch boxes.old below.old items.old item_boxes.old glyph_items.now room.rects room.regions room.words) (outcome entry s.now) }
+    ensures answer { result
+        ≡ answer_of (lent_scratch boxes.old below.old items.old item_boxes.old glyph_items.now room.rects room.regions room.words) (outcome entry s.now) }
     ensures stands { StandsFor result (outcome entry s.now) rects.new regions.new words.new }
 {
     let screen = frame::read_header(s)?;

@@ -84,7 +84,8 @@ fn window_at(s: &[u8], boxes: &[f64], run: Run, at: usize) -> Rect
 // Appends the boxes of a run's glyphs from the one of a number on. By number, which gives the offset in the strip of each.
 fn append_glyph_bounds(s: &[u8], boxes: &[f64], run: Run, first: usize, rects: &mut RectList)
     requires { (8 * run.clip ≤ length boxes.now) × Inside s.now run.glyphs run.count × (first ≤ run.count) × (rects.old.count + (run.count - first) < 2 ^ 63) }
-    ensures { AddedTo (run.count - first) rects.old (map (windowed boxes.now run) (glyphs_from s.now (run.glyphs + Layout.glyph_length * first) (run.count - first))) rects.new }
+    ensures { AddedTo (run.count - first) rects.old
+        (map (windowed boxes.now run) (glyphs_from s.now (run.glyphs + Layout.glyph_length * first) (run.count - first))) rects.new }
 {
     for k in first..run.count as usize {
         rects.push(window_at(s, boxes, run, run.glyphs + GLYPH_LENGTH * k));
@@ -103,7 +104,8 @@ fn append_changed(
     other: usize,
     rects: &mut RectList,
 )
-    requires { (8 * old.clip ≤ length boxes.now) × (8 * new.clip ≤ length boxes.now) × (at + Layout.glyph_length ≤ length s.now) × (other + Layout.glyph_length ≤ length s.now) × (rects.old.count + 1 < 2 ^ 63) }
+    requires { (8 * old.clip ≤ length boxes.now) × (8 * new.clip ≤ length boxes.now) × (at + Layout.glyph_length ≤ length s.now)
+        × (other + Layout.glyph_length ≤ length s.now) × (rects.old.count + 1 < 2 ^ 63) }
     ensures { AddedTo 1 rects.old (changed_at (windowed boxes.now old) (windowed boxes.now new) (glyph_at s.now at) (glyph_at s.now other)) rects.new }
 {
     if little_endian::same_bytes(s, at, other, GLYPH_LENGTH) || glyph_eq(s, at, other) {
@@ -117,8 +119,10 @@ fn append_changed(
 // Appends the boxes of what changed from a run to another: at each common place whose glyphs are painted
 // differently the union of both boxes, and then the boxes of the glyphs that only one of them has. By number, which gives both offsets.
 pub fn changed_glyph_bounds(s: &[u8], boxes: &[f64], old: Run, new: Run, rects: &mut RectList)
-    requires { (8 * old.clip ≤ length boxes.now) × (8 * new.clip ≤ length boxes.now) × Inside s.now old.glyphs old.count × Inside s.now new.glyphs new.count × (rects.old.count + most_boxes < 2 ^ 63) }
-    ensures { AddedTo most_boxes rects.old (changed_glyphs (windowed boxes.now old) (windowed boxes.now new) (glyphs_of s.now old) (glyphs_of s.now new)) rects.new }
+    requires { (8 * old.clip ≤ length boxes.now) × (8 * new.clip ≤ length boxes.now) × Inside s.now old.glyphs old.count × Inside s.now new.glyphs new.count
+        × (rects.old.count + most_boxes < 2 ^ 63) }
+    ensures { AddedTo most_boxes rects.old (changed_glyphs (windowed boxes.now old) (windowed boxes.now new) (glyphs_of s.now old) (glyphs_of s.now new))
+        rects.new }
 {
     let common = old.count.min(new.count) as usize;
     for k in 0..common {

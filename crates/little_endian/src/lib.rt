@@ -148,7 +148,8 @@ pub fn f64_inside(s: &[u8], at: usize) -> f64
 }
 
 // True only where the n bytes from p on are those from q on. A row of eight or more, short of 128, is compared eight at a time, and the last eight even if
-// some of them were: std's `==` takes a third longer there where n is known when this is compiled (45 bytes: 7.8 ns, not 5.8), and less past it (1,000 bytes: 34, not 57).
+// some of them were: std's `==` takes a third longer there where n is known when this is compiled (45 bytes: 7.8 ns, not 5.8), and less past it
+// (1,000 bytes: 34, not 57).
 // By number, since each step reads eight bytes at two places of one slice.
 pub fn same_bytes(s: &[u8], p: usize, q: usize, n: usize) -> bool
     requires { (p + n ≤ length s.now) × (q + n ≤ length s.now) }

@@ -60,11 +60,25 @@ pub record Key : Type 0 where
   pub y : Float
 
 abbrev pub key_of : Command → Glyph → Key
-key_of c g = record { font = font_of c.draw; size = size_of c.draw; transform = transform_of c.draw; brush = brush_of c.draw; clips = c.clips; id = g.id; x = g.x; y = g.y }
+key_of c g =
+    record {
+      font = font_of c.draw;
+      size = size_of c.draw;
+      transform = transform_of c.draw;
+      brush = brush_of c.draw;
+      clips = c.clips;
+      id = g.id;
+      x = g.x;
+      y = g.y;
+    }
 
 -- "floats by value"
 unfoldable pub same_key : Key → Key → Bool
-same_key j k = (eqb j.font k.font && eq j.size k.size) && (same_affine j.transform k.transform && eqb j.brush k.brush) && same_clips j.clips k.clips && (eqb j.id k.id && (eq j.x k.x && eq j.y k.y))
+same_key j k =
+    (eqb j.font k.font && eq j.size k.size)
+    && (same_affine j.transform k.transform && eqb j.brush k.brush)
+    && same_clips j.clips k.clips
+    && (eqb j.id k.id && (eq j.x k.x && eq j.y k.y))
 
 -- ---- the rules
 -- "A painter may be any function of command, pixel and colour below", here `paint`, with `mark` for one glyph, over colours C of any type, "if, over the
@@ -75,14 +89,27 @@ pub record Rules (w h : ℕ) (C : Type 0) (M : Command → Type 0) (paint : Comm
   -- "(ii) a command changes no pixel untouched by its box"
   pub untouched : (c : Command) → M c → (px : Pixel w h) → touches (bounds c) px.p px.q ≡ false → (k : C) → paint c px k ≡ k
   -- "(iii) FILLs alike in path, affine and brush paint alike where both boxes cut the pixel's closed square to the same part"
-  pub fills : (c d : Command) → M c → M d → fills_alike c.draw d.draw ≡ true → (px : Pixel w h) → same_edges (part (bounds c) px.p px.q) (part (bounds d) px.p px.q) ≡ true → (k : C) → paint c px k ≡ paint d px k
+  pub fills :
+      (c d : Command) → M c → M d → fills_alike c.draw d.draw ≡ true
+      → (px : Pixel w h) → same_edges (part (bounds c) px.p px.q) (part (bounds d) px.p px.q) ≡ true → (k : C) → paint c px k ≡ paint d px k
   -- "(iv) a RUN paints glyph by glyph"
-  pub glyph_by_glyph : (c : Command) → M c → is_run c.draw ≡ true → (px : Pixel w h) (k : C) → paint c px k ≡ paint_all (λ (g : Glyph). mark (key_of c g) px) c.glyphs k
+  pub glyph_by_glyph :
+      (c : Command) → M c → is_run c.draw ≡ true
+      → (px : Pixel w h) (k : C) → paint c px k ≡ paint_all (λ (g : Glyph). mark (key_of c g) px) c.glyphs k
   -- "each by font, size, affine, brush, clip and the glyph's id, x and y (floats by value)"
-  pub by_value : (c d : Command) → M c → M d → is_run c.draw ≡ true → is_run d.draw ≡ true → (g j : Glyph) → In g c.glyphs → In j d.glyphs → same_key (key_of c g) (key_of d j) ≡ true → (px : Pixel w h) (k : C) → mark (key_of c g) px k ≡ mark (key_of d j) px k
+  pub by_value :
+      (c d : Command) → M c → M d → is_run c.draw ≡ true → is_run d.draw ≡ true
+      → (g j : Glyph) → In g c.glyphs → In j d.glyphs → same_key (key_of c g) (key_of d j) ≡ true
+      → (px : Pixel w h) (k : C) → mark (key_of c g) px k ≡ mark (key_of d j) px k
   -- "changing no pixel untouched by its transformed, clipped box"
-  pub glyph_untouched : (c : Command) → M c → is_run c.draw ≡ true → (g : Glyph) → In g c.glyphs → (px : Pixel w h) → touches (glyph_bounds c g) px.p px.q ≡ false → (k : C) → mark (key_of c g) px k ≡ k
+  pub glyph_untouched :
+      (c : Command) → M c → is_run c.draw ≡ true → (g : Glyph) → In g c.glyphs
+      → (px : Pixel w h) → touches (glyph_bounds c g) px.p px.q ≡ false → (k : C) → mark (key_of c g) px k ≡ k
 
 -- "The glyph rule: in the list's accepted frames, glyphs equal in font, size, id, x and y carry equal boxes."
 abbrev pub GlyphRule : (Command → Type 0) → Type 0
-GlyphRule M = (c d : Command) → M c → M d → is_run c.draw ≡ true → is_run d.draw ≡ true → (g j : Glyph) → In g c.glyphs → In j d.glyphs → eqb (font_of c.draw) (font_of d.draw) ≡ true → eq (size_of c.draw) (size_of d.draw) ≡ true → same_glyph g j ≡ true → same_edges g.bounds j.bounds ≡ true
+GlyphRule M =
+    (c d : Command) → M c → M d → is_run c.draw ≡ true → is_run d.draw ≡ true
+    → (g j : Glyph) → In g c.glyphs → In j d.glyphs
+    → eqb (font_of c.draw) (font_of d.draw) ≡ true → eq (size_of c.draw) (size_of d.draw) ≡ true → same_glyph g j ≡ true
+    → same_edges g.bounds j.bounds ≡ true

@@ -56,7 +56,9 @@ module _ (P : Planner) where
 
   -- "the commands of the list's accepted frames and no others"
   pub data Used : Option P.Strip → List (Frame P) → Command → Type 0 where
-    now : {last : Option P.Strip} {f : Frame P} {fs : List (Frame P)} {c : Command} → is_accepted last f ≡ true → In c (P.commands f.strip) → Used last (f ∷ fs) c
+    now :
+        {last : Option P.Strip} {f : Frame P} {fs : List (Frame P)} {c : Command}
+        → is_accepted last f ≡ true → In c (P.commands f.strip) → Used last (f ∷ fs) c
     later : {last : Option P.Strip} {f : Frame P} {fs : List (Frame P)} {c : Command} → Used (last_after last f) fs c → Used last (f ∷ fs) c
 
   -- the order of an accepted frame is one of its regions; at the first, panel B paints no regions
@@ -130,7 +132,8 @@ module _ (P : Planner) where
 -- Demand 3, of a planner under a header: for all frames, all colours and every painter that keeps the rules over the accepted frames
 abbrev pub PanelsAgree : Screen → Planner → Type 1
 PanelsAgree screen P =
-    (frames : List (Frame P)) (C : Type 0) (background : C) (paint : Command → Pixel screen.width screen.height → C → C) (mark : Key → Pixel screen.width screen.height → C → C) (absent : Command)
+    (frames : List (Frame P)) (C : Type 0) (background : C)
+    (paint : Command → Pixel screen.width screen.height → C → C) (mark : Key → Pixel screen.width screen.height → C → C) (absent : Command)
     → Rules screen.width screen.height C (Used P none frames) paint mark
     → GlyphRule (Used P none frames)
     → Orders P none frames

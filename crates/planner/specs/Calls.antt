@@ -41,7 +41,9 @@ word_count (Ok plan) = plan.words
 word_count (Err why) = 0
 
 -- scratch and output have as many
-pub record Copies (plan : Result Plan Refusal) (draft_rects : List Float) (draft_regions draft_words : List ℕ) (rects : List Float) (regions words : List ℕ) : Type 0 where
+pub record Copies
+    (plan : Result Plan Refusal) (draft_rects : List Float) (draft_regions draft_words : List ℕ) (rects : List Float) (regions words : List ℕ)
+    : Type 0 where
   pub from_rects : rect_count plan ≤ length draft_rects
   pub from_regions : region_count plan ≤ length draft_regions
   pub from_words : word_count plan ≤ length draft_words

@@ -53,7 +53,8 @@ fn clear_lists(
     item_boxes: &mut [f64],
     glyph_items: &mut [u64],
 )
-    ensures { (ZeroFloats boxes.old boxes.new) × (Zeros below.old below.new) × (Zeros items.old items.new) × (ZeroFloats item_boxes.old item_boxes.new) × (Zeros glyph_items.old glyph_items.new) }
+    ensures { (ZeroFloats boxes.old boxes.new) × (Zeros below.old below.new) × (Zeros items.old items.new) × (ZeroFloats item_boxes.old item_boxes.new)
+        × (Zeros glyph_items.old glyph_items.new) }
 {
     boxes.fill(0.0);
     below.fill(0);
@@ -69,7 +70,8 @@ fn clear_draft(
     regions: &mut [u32],
     words: &mut [u32],
 )
-    ensures { (ZeroFloats rects.old rects.new) × (Zeros work.old work.new) × (Zeros spare.old spare.new) × (Zeros regions.old regions.new) × (Zeros words.old words.new) }
+    ensures { (ZeroFloats rects.old rects.new) × (Zeros work.old work.new) × (Zeros spare.old spare.new) × (Zeros regions.old regions.new)
+        × (Zeros words.old words.new) }
 {
     rects.fill(0.0);
     work.fill(0);

@@ -59,7 +59,14 @@ abbrev pub no_counts : Counts
 no_counts = record { rects = 0; regions = 0; words = 0; pixels = 0; emitted = 0 }
 
 abbrev pub counts_of : Result Plan Refusal → Counts
-counts_of (Ok plan) = record { rects = plan.rects; regions = plan.work.regions_transferred; words = plan.words; pixels = plan.work.pixels_transferred; emitted = plan.work.commands_emitted }
+counts_of (Ok plan) =
+    record {
+      rects = plan.rects;
+      regions = plan.work.regions_transferred;
+      words = plan.words;
+      pixels = plan.work.pixels_transferred;
+      emitted = plan.work.commands_emitted;
+    }
 counts_of (Err why) = no_counts
 
 -- ---- and what they are for a call

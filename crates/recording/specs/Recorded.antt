@@ -46,7 +46,8 @@ pub record Recorded (s : List ℕ) (at clips commands : ℕ) (z y : Space) (t : 
   pub listed : commands_in s y.boxes y.below y.items commands t.commands ≡ commands_of s at
 
 abbrev pub Records : List ℕ → ℕ → ℕ → ℕ → Space → Space → Result Cursor Refusal → Type 0
-Records s at clips commands z y r = WhereRead (λ t. Holds clips commands s z → Room (clips + t.clips) (commands + t.commands) z → Recorded s at clips commands z y t) r
+Records s at clips commands z y r =
+    WhereRead (λ t. Holds clips commands s z → Room (clips + t.clips) (commands + t.commands) z → Recorded s at clips commands z y t) r
 
 -- ---- a whole input
 -- the strip of a first frame
@@ -64,7 +65,8 @@ pub record Two (s : List ℕ) (old new : Cursor) (y : Space) : Type 0 where
 -- the new strip, recorded behind the old one, which is held
 abbrev pub RecordsNew : List ℕ → Cursor → Space → Space → Result Strips Refusal → Type 0
 RecordsNew s old z y (Ok both) =
-    Holds old.clips old.commands s z → Room (old.clips + both.new.clips) (old.commands + both.new.commands) z → Recorded s old.at old.clips old.commands z y both.new
+    Holds old.clips old.commands s z
+    → Room (old.clips + both.new.clips) (old.commands + both.new.commands) z → Recorded s old.at old.clips old.commands z y both.new
 RecordsNew s old z y (Err why) = Unit {0}
 
 abbrev pub RecordsBoth : List ℕ → Space → Result Strips Refusal → Type 0

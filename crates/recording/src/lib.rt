@@ -29,7 +29,8 @@ fn record_strip(
     requires { (clips ≤ Limits.most_clips) × (commands ≤ Limits.most_commands) }
     ensures answer { result ≡ read_strip s.now at }
     ensures lengths { SameLengths (space boxes.old below.old items.old item_boxes.old) (space boxes.new below.new items.new item_boxes.new) }
-    ensures lists { Records s.now at clips commands (space boxes.old below.old items.old item_boxes.old) (space boxes.new below.new items.new item_boxes.new) result }
+    ensures lists { Records s.now at clips commands (space boxes.old below.old items.old item_boxes.old)
+        (space boxes.new below.new items.new item_boxes.new) result }
 {
     let mut st = strip::cursor_at(s, at);
     let mut list = ListState {
@@ -91,7 +92,8 @@ fn record_new(
     requires { (old.clips ≤ Limits.most_clips) × (old.commands ≤ Limits.most_commands) }
     ensures answer { result ≡ Frame.then_new s.now old (read_strip s.now old.at) }
     ensures lengths { SameLengths (space boxes.old below.old items.old item_boxes.old) (space boxes.new below.new items.new item_boxes.new) }
-    ensures lists { RecordsNew s.now old (space boxes.old below.old items.old item_boxes.old) (space boxes.new below.new items.new item_boxes.new) result }
+    ensures lists { RecordsNew s.now old (space boxes.old below.old items.old item_boxes.old)
+        (space boxes.new below.new items.new item_boxes.new) result }
 {
     let from = old.at;
     let clips = old.clips as usize;

@@ -1,7 +1,8 @@
 -- The numbers of the table, in the code's words for its cases.
 use Rattle.std.specs.Prelude.{List, ℕ, ◌++◌, Result, Err, codes, decimal}
 use Rattle.refusals.specs.declared.Fault.{Fault}
-use Rattle.refusals.specs.declared.Fault.TheVariants.{Size, CutOff, UnknownCode, NotFinite, NoOpenClip, TooMany, GlyphOrder, TrailingByte, BoxNotFinite, NoRoom, NoRow}
+use Rattle.refusals.specs.declared.Fault.TheVariants.{Size, CutOff, UnknownCode, NotFinite, NoOpenClip, TooMany}
+use Rattle.refusals.specs.declared.Fault.TheVariants.{GlyphOrder, TrailingByte, BoxNotFinite, NoRoom, NoRow}
 use Rattle.refusals.specs.declared.Refusal.{Refusal}
 
 abbrev pub number : Fault → ℕ

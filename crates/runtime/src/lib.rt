@@ -177,7 +177,9 @@ impl ListSpace<'_> {
     #[tactic(auto, unfolding(equality::specs::Drawings::equal))]
     fn equal(self, old: PlacedCommand, new: PlacedCommand) -> bool
         requires { Pair self.bytes.now self.boxes.now self.below.now old new }
-        ensures { result ≡ Drawings.equal (stands_for self.entry.bytes.now self.entry.boxes.now self.entry.below.now old) (stands_for self.entry.bytes.now self.entry.boxes.now self.entry.below.now new) }
+        ensures { result
+            ≡ Drawings.equal (stands_for self.entry.bytes.now self.entry.boxes.now self.entry.below.now old)
+            (stands_for self.entry.bytes.now self.entry.boxes.now self.entry.below.now new) }
     {
         equality::same_drawing(old.command, new.command)
             && glyph_changes::equal_glyphs(self.bytes, old.run, new.run)
@@ -187,7 +189,9 @@ impl ListSpace<'_> {
     // Whether both are runs alike in font, size, affine, brush and clips.
     fn runs_alike(self, one: PlacedCommand, other: PlacedCommand) -> bool
         requires { Rooted self.boxes.now self.below.now one.run.clip other.run.clip }
-        ensures { result ≡ (Drawings.runs_alike one.command other.command && same_clips (chain self.entry.boxes.now self.entry.below.now one.run.clip) (chain self.entry.boxes.now self.entry.below.now other.run.clip)) }
+        ensures { result
+            ≡ (Drawings.runs_alike one.command other.command
+            && same_clips (chain self.entry.boxes.now self.entry.below.now one.run.clip) (chain self.entry.boxes.now self.entry.below.now other.run.clip)) }
     {
         equality::runs_alike(one.command, other.command)
             && clips::same_clips(self.boxes, self.below, one.run.clip, other.run.clip)
@@ -197,7 +201,10 @@ impl ListSpace<'_> {
     // the boxes of fills alike, the glyphs of runs alike, and else the union of both boxes.
     fn changed_placed(self, old: PlacedCommand, new: PlacedCommand, rects: &mut RectList)
         requires { Pair self.bytes.now self.boxes.now self.below.now old new × (rects.old.count + most_boxes < 2 ^ 63) }
-        ensures { AddedTo most_boxes rects.old (changed_bounds (stands_for self.entry.bytes.now self.entry.boxes.now self.entry.below.now old) (stands_for self.entry.bytes.now self.entry.boxes.now self.entry.below.now new)) rects.new }
+        ensures { AddedTo most_boxes rects.old
+            (changed_bounds (stands_for self.entry.bytes.now self.entry.boxes.now self.entry.below.now old)
+            (stands_for self.entry.bytes.now self.entry.boxes.now self.entry.below.now new))
+            rects.new }
     {
         if self.equal(old, new) {
             return;
@@ -214,7 +221,10 @@ impl ListSpace<'_> {
     // The same once both are decoded, whatever they are.
     fn changed_decoded(self, i: usize, j: usize, rects: &mut RectList)
         requires { Both i j self.bytes.now self.boxes.now self.below.now self.items.now self.item_boxes.now × (rects.old.count + most_boxes < 2 ^ 63) }
-        ensures { AddedTo most_boxes rects.old (changed_bounds (command_in self.entry.bytes.now self.entry.boxes.now self.entry.below.now self.entry.items.now i) (command_in self.entry.bytes.now self.entry.boxes.now self.entry.below.now self.entry.items.now j)) rects.new }
+        ensures { AddedTo most_boxes rects.old
+            (changed_bounds (command_in self.entry.bytes.now self.entry.boxes.now self.entry.below.now self.entry.items.now i)
+            (command_in self.entry.bytes.now self.entry.boxes.now self.entry.below.now self.entry.items.now j))
+            rects.new }
     {
         let old = self.placed_at(i);
         let new = self.placed_at(j);
@@ -232,7 +242,12 @@ impl ListSpace<'_> {
     // Appends the boxes of what changed in the glyphs of a RUN that stands at both places: its operands are read once.
     fn changed_run(self, i: usize, j: usize, rects: &mut RectList)
         requires { RunPair self.bytes.now self.boxes.now self.items.now i j × (rects.old.count + most_boxes < 2 ^ 63) }
-        ensures { AddedTo most_boxes rects.old (changed_glyphs (windowed self.entry.boxes.now (Placed.run_at self.entry.bytes.now self.entry.items.now i)) (windowed self.entry.boxes.now (Placed.run_at self.entry.bytes.now self.entry.items.now j)) (glyphs_of self.entry.bytes.now (Placed.run_at self.entry.bytes.now self.entry.items.now i)) (glyphs_of self.entry.bytes.now (Placed.run_at self.entry.bytes.now self.entry.items.now j))) rects.new }
+        ensures { AddedTo most_boxes rects.old
+            (changed_glyphs (windowed self.entry.boxes.now (Placed.run_at self.entry.bytes.now self.entry.items.now i))
+            (windowed self.entry.boxes.now (Placed.run_at self.entry.bytes.now self.entry.items.now j))
+            (glyphs_of self.entry.bytes.now (Placed.run_at self.entry.bytes.now self.entry.items.now i))
+            (glyphs_of self.entry.bytes.now (Placed.run_at self.entry.bytes.now self.entry.items.now j)))
+            rects.new }
     {
         let at = self.offset_at(i);
         let other = self.offset_at(j);
@@ -257,7 +272,10 @@ impl ListSpace<'_> {
     // are RUNs of which only glyphs changed: those are told where they stand, and the others decoded.
     pub fn changed_bounds(self, i: usize, j: usize, rects: &mut RectList)
         requires { Both i j self.bytes.now self.boxes.now self.below.now self.items.now self.item_boxes.now × (rects.old.count + most_boxes < 2 ^ 63) }
-        ensures { AddedTo most_boxes rects.old (changed_bounds (command_in self.entry.bytes.now self.entry.boxes.now self.entry.below.now self.entry.items.now i) (command_in self.entry.bytes.now self.entry.boxes.now self.entry.below.now self.entry.items.now j)) rects.new }
+        ensures { AddedTo most_boxes rects.old
+            (changed_bounds (command_in self.entry.bytes.now self.entry.boxes.now self.entry.below.now self.entry.items.now i)
+            (command_in self.entry.bytes.now self.entry.boxes.now self.entry.below.now self.entry.items.now j))
+            rects.new }
     {
         let at = self.offset_at(i);
         let other = self.offset_at(j);
@@ -299,8 +317,12 @@ impl ListSpace<'_> {
 
     // True only where the commands at places i and j are equal.
     fn same_placed(self, i: usize, j: usize, known: (u64, u64)) -> bool
-        requires { Standing self.bytes.now self.items.now i × Standing self.bytes.now self.items.now j × Rooted self.boxes.now self.below.now (clip_number_at self.items.now i) (clip_number_at self.items.now j) × AlikeClips self.boxes.now self.below.now known.0 known.1 }
-        ensures { result ≡ true → Drawings.equal (command_in self.entry.bytes.now self.entry.boxes.now self.entry.below.now self.entry.items.now i) (command_in self.entry.bytes.now self.entry.boxes.now self.entry.below.now self.entry.items.now j) ≡ true }
+        requires { Standing self.bytes.now self.items.now i × Standing self.bytes.now self.items.now j
+            × Rooted self.boxes.now self.below.now (clip_number_at self.items.now i) (clip_number_at self.items.now j)
+            × AlikeClips self.boxes.now self.below.now known.0 known.1 }
+        ensures { result ≡ true
+            → Drawings.equal (command_in self.entry.bytes.now self.entry.boxes.now self.entry.below.now self.entry.items.now i)
+            (command_in self.entry.bytes.now self.entry.boxes.now self.entry.below.now self.entry.items.now j) ≡ true }
     {
         unchanged(self.bytes, self.offset_at(i), self.offset_at(j))
             && self.clips_alike((self.clip_number_at(i), self.clip_number_at(j)), known)
@@ -312,8 +334,12 @@ impl ListSpace<'_> {
     // It takes words and makes the list itself: a `RectList` lent to it would have to hold no box, which asks more of a caller.
     // By number, since each step compares two places of one list.
     pub fn diff_dirty(self, old: usize, new: usize, rects: &mut [f64]) -> usize
-        requires { Stored (old + new) self.bytes.now self.boxes.now self.below.now self.items.now self.item_boxes.now × (old ≤ Limits.most_commands) × (new ≤ Limits.most_commands) }
-        ensures { Listed rects.old (diff_dirty (commands_in self.entry.bytes.now self.entry.boxes.now self.entry.below.now self.entry.items.now 0 old) (commands_in self.entry.bytes.now self.entry.boxes.now self.entry.below.now self.entry.items.now old new)) rects.new result }
+        requires { Stored (old + new) self.bytes.now self.boxes.now self.below.now self.items.now self.item_boxes.now × (old ≤ Limits.most_commands)
+            × (new ≤ Limits.most_commands) }
+        ensures { Listed rects.old
+            (diff_dirty (commands_in self.entry.bytes.now self.entry.boxes.now self.entry.below.now self.entry.items.now 0 old)
+            (commands_in self.entry.bytes.now self.entry.boxes.now self.entry.below.now self.entry.items.now old new))
+            rects.new result }
     {
         let mut list = RectList::new(rects);
         let common = old.min(new);

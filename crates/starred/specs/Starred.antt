@@ -51,7 +51,9 @@ abbrev filled : List Rect → Command
 filled cs = drawn (FillPath 1 (edges 0 0 10 10) identity 1) cs
 
 abbrev stroked : Command
-stroked = drawn (StrokePath 1 (edges 10 10 20 20) identity (record { width = whole 2; join = J.Miter; miter_limit = whole 4; start_cap = C.Butt; end_cap = C.Butt; dash = 0 }) 1) []
+stroked =
+    let stroke = record { width = whole 2; join = J.Miter; miter_limit = whole 4; start_cap = C.Butt; end_cap = C.Butt; dash = 0 } in
+    drawn (StrokePath 1 (edges 10 10 20 20) identity stroke 1) []
 
 -- the rows of a screen 40 high in bands of 16
 abbrev first : Float → ℕ

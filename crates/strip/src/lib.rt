@@ -11,7 +11,8 @@ ghost use Rattle.strip_format.specs.Finite.{FourFinite};
 ghost use Rattle.strip.specs.Steps as Steps;
 ghost use Rattle.strip.specs.Reading as Reading;
 ghost use Rattle.strip.specs.Effects as Effects;
-ghost use Rattle.strip.specs.Effects.{settled, drawn_or_many, last_effect, Stands, DrawsAt, OwnBounds, GlyphDue, GoesOn, NearGoesOn, NearRun, GlyphPlaced, OnlyMoves, Passes};
+ghost use Rattle.strip.specs.Effects.{settled, drawn_or_many, last_effect, Stands, DrawsAt, OwnBounds};
+ghost use Rattle.strip.specs.Effects.{GlyphDue, GoesOn, NearGoesOn, NearRun, GlyphPlaced, OnlyMoves, Passes};
 
 use affine::Affine;
 use geometry::Rect;

@@ -1,4 +1,5 @@
--- What stands at an offset of a strip: document 01's table, byte by byte, by the numbers of `Layout`. "A box is x0, y0, x1, y1 .. An affine is a, b, c, d, e, f."
+-- What stands at an offset of a strip: document 01's table, byte by byte, by the numbers of `Layout`. "A box is x0, y0, x1, y1 .. An affine is a, b, c, d,
+-- e, f."
 use Rattle.std.specs.Prelude.{List, [], ◌∷◌, ℕ, zero, suc, ◌+◌, leb, eqb, length, get_or}
 use Rattle.std.specs.Float.{binary64}
 use Rattle.std.specs.Float.Ieee.{of_bits}
