@@ -57,13 +57,3 @@ pub fn candidates<'a>(screen: Screen, y: u32, words: &'a [u32]) -> &'a [u32]
         Err(_) => &words[0..0],
     }
 }
-
-// The number of the refusal alone; 0 where there is none. `find` says it with the row.
-pub fn refusal(screen: Screen, y: u32, words: &[u32]) -> u32
-    ensures { result ≡ Table.refusal screen y words.now }
-{
-    match find(screen, y, words) {
-        Ok(_) => 0,
-        Err(why) => why.fault.number(),
-    }
-}

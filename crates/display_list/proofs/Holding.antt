@@ -13,17 +13,14 @@ use Rattle.lists.specs.Pick.{pick}
 use Rattle.lists.proofs.Picks.{pick_true, pick_false}
 use Rattle.geometry.specs.declared.Rect.{Rect}
 use Rattle.affine.specs.Affines.{transform_rect_bbox}
-use Rattle.affine.proofs.Corners.{try_is}
 use Rattle.commands.specs.declared.Glyph.{Glyph}
 use Rattle.commands.specs.declared.DrawCommand.{DrawCommand}
-use Rattle.commands.specs.Bounds.{transform_of, glyph_count, united, local_bounds, local_with, try_with, clipped, bounds, glyph_bounds}
-use Rattle.commands.proofs.Runs.{local_is}
+use Rattle.commands.specs.Bounds.{transform_of, clipped, glyph_bounds}
 use Rattle.clips.specs.Chains.{clip_rect, clip_at, below_at, chain, Clips, put_clip, Room}
 use Rattle.clips.proofs.Chaining.{clip_rect_is, chain_none, chain_step, put_kept, put_chain, put_clips, no_clips, length_clip}
 use Rattle.display_list.specs.declared.ListState.{ListState}
 use Rattle.display_list.specs.Lists.{clip_room, pushed_clip, clip_boxes, clip_numbers, popped_clip, open_rect, window_glyph_bounds}
 use Rattle.display_list.proofs.Rooms.{fits_clip}
-use Rattle.std.specs.Prelude.{Some}
 
 -- the state stands for these open clips, oldest first, and the space holds them
 pub record Held (cs : List Rect) (d : ListState) (bs : List Float) (ns : List ℕ) : Type 0 where
@@ -125,13 +122,6 @@ module _ (cs : List Rect) (d : ListState) (bs : List Float) (ns : List ℕ) (h :
   open_rect_is b =
       let l : d.top ≤ length bs / 8 = omega (arith, h.low, h.clips.chained.boxes) in
       pick_true _ (clip_rect bs d.top b) b (le-leb d.top (length bs / 8) l) ∙ clip_rect_is d.clips bs ns h.clips d.top h.low b ∙ ap (λ (z : List Rect). clipped z b) h.chained
-
-  -- what is stored for a command whose corners are finite is its box
-  pub open_bounds : (draw : DrawCommand) (gs : List Glyph) (u own b : Rect) → glyph_count draw ≡ length gs → (0 < length gs → u ≡ united own gs) → try_with draw u ≡ Some b → open_rect d bs b ≡ bounds (record { draw = draw; glyphs = gs; clips = cs })
-  unfolding bounds
-  open_bounds draw gs u own b n f e =
-      let l : local_with draw u ≡ local_bounds draw gs = local_is draw u own gs n f in
-      open_rect_is b ∙ ap (clipped cs) (try_is (transform_of draw) (local_with draw u) b e ∙ ap (transform_rect_bbox (transform_of draw)) l)
 
 -- a glyph's box, read from the space, is that of a command with the clips up to that number
 pub glyph_bounds_is : (n : ℕ) (bs : List Float) (ns : List ℕ) → Clips n bs ns → (x : ℕ) → x ≤ n → (draw : DrawCommand) (gs : List Glyph) (g : Glyph) → window_glyph_bounds bs x (transform_of draw) g.bounds ≡ glyph_bounds (record { draw = draw; glyphs = gs; clips = chain bs ns x }) g

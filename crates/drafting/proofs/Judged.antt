@@ -26,7 +26,8 @@ use Rattle.plans.specs.declared.Plan.{Plan}
 use Rattle.plans.specs.Drafts.{Draft}
 use Rattle.plans.specs.Answers.{draft_fits, planned, accepted}
 use Rattle.drafting.specs.Drafted.{draft_in, rooms, judged, indexed, StandsIf}
-use Rattle.drafting.proofs.Words.{rects_length, rects_words, part_boxes}
+use Rattle.drafting.proofs.Words.{rects_words, part_boxes}
+use Rattle.rect_words.proofs.Lists.{boxes_length}
 use Rattle.rect_words.specs.Words.{boxes_to}
 use Rattle.screen.specs.declared.Screen.{Screen}
 
@@ -86,7 +87,7 @@ module _ (screen : Screen) (rs : List Float) (n : ℕ) (ibs : List Float) (first
 
   pub rects_over : R < n → Refused
   unfolding draft_fits
-  rects_over k = fits_false (rw (lt-leb (length (boxes_to rs n)) R (omega (arith, rects_length rs n))))
+  rects_over k = fits_false (rw (lt-leb (length (boxes_to rs n)) R (omega (arith, boxes_length rs n))))
 
   regions_many : G < length (schedule screen (boxes_to rs n)) → Refused
   unfolding draft_fits
@@ -116,9 +117,9 @@ module _ (screen : Screen) (rs : List Float) (n : ℕ) (ibs : List Float) (first
 
           answer_is : p ≡ judged (rooms R G W) d
           answer_is =
-              let u : leb (length (boxes_to rs n)) R ≡ true = le-leb (length (boxes_to rs n)) R (omega (arith, rects_length rs n)) in
+              let u : leb (length (boxes_to rs n)) R ≡ true = le-leb (length (boxes_to rs n)) R (omega (arith, boxes_length rs n)) in
               let v : leb (length (schedule screen (boxes_to rs n))) G ≡ true = le-leb (length (schedule screen (boxes_to rs n))) G (omega (arith, listed.count_is)) in
-              e ∙ rw (u, v) (λ i. pick (leb (length words) W) (Ok (planned (sym (rects_length rs n) i) (length words) (work_of commands (listed.count_is i) (listed.pixels_are i)))) (refused NoRoom 0))
+              e ∙ rw (u, v) (λ i. pick (leb (length words) W) (Ok (planned (sym (boxes_length rs n) i) (length words) (work_of commands (listed.count_is i) (listed.pixels_are i)))) (refused NoRoom 0))
 
           low : (z : Bool) → leb (length words) W ≡ z → accepted (pick z (Ok (planned n (length words) (work_of commands t.regions t.pixels))) (refused NoRoom 0)) ≡ true → length words ≤ W
           low true g q = leb-true (length words) W g
@@ -126,7 +127,7 @@ module _ (screen : Screen) (rs : List Float) (n : ℕ) (ibs : List Float) (first
 
           stands : StandsIf p d rs new ws
           stands q =
-              let r = rects_length rs n in
+              let r = boxes_length rs n in
               let small = low (leb (length words) W) refl (sym (ap accepted e) ∙ q) in
               record {
                 rects = ap (λ (k : ℕ). take (4 * k) rs) r ∙ rects_words rs n (omega arith);

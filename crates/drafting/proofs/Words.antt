@@ -3,19 +3,13 @@ use mathlib.Core.Path.{◌≡◌, refl, sym, ap, ◌∙◌}
 use mathlib.Core.List.{List, [], ◌∷◌, ◌++◌, append_assoc}
 use Prim.Native.Nat.{ℕ, zero, suc, ◌+◌, ◌*◌, ◌/◌, ◌≤◌, ◌<◌}
 use native.Mathlib.Omega.{arith}
-use lib.ListN.{length, take, get_or, length-append}
+use lib.ListN.{length, take, get_or}
 use lib.Seq.{take-suc, get_or-take, length-take-le}
 use lib.Ieee.{Float, nan}
 use Rattle.geometry.specs.declared.Rect.{Rect}
-use Rattle.rect_words.specs.Words.{rect_from, box_at, boxes_to}
+use Rattle.rect_words.specs.Words.{rect_from, boxes_to}
 use Rattle.rect_list.specs.Rects.{words_of_rects}
-use Rattle.band_index.proofs.Reading.{boxes_are}
-
--- the first n boxes are as many
-pub rects_length : (xs : List Float) (n : ℕ) → length (boxes_to xs n) ≡ n
-unfolding boxes_to
-rects_length xs zero = refl
-rects_length xs (suc n) = length-append (boxes_to xs n) (box_at xs n ∷ []) ∙ omega (arith, rects_length xs n)
+use Rattle.rect_words.proofs.Lists.{boxes_are}
 
 words_append : (a b : List Rect) → words_of_rects (a ++ b) ≡ words_of_rects a ++ words_of_rects b
 unfolding words_of_rects

@@ -19,7 +19,8 @@ use Rattle.plans.specs.Drafts.{Draft, draft, Items, drafted, screen_rect}
 use Rattle.plans.specs.Space.{Lent}
 use Rattle.plans.specs.Answers.{items_fit, draft_fits, accepted, answer_of}
 use Rattle.drafting.specs.Drafted.{draft_in, rooms, judged, StandsIf}
-use Rattle.drafting.proofs.Words.{rects_length, rects_back}
+use Rattle.drafting.proofs.Words.{rects_back}
+use Rattle.rect_words.proofs.Lists.{boxes_length}
 use Rattle.rect_words.specs.Words.{boxes_to}
 use Rattle.screen.specs.declared.Screen.{Screen}
 
@@ -45,7 +46,7 @@ module _ (screen : Screen) (l : List Rect) (cs : List Command) (old rs : List Fl
     too_many : R < n → (p ≡ answer_of z (drafted i (draft screen l cs))) × StandsIf p (draft screen l cs) rs gs ws
     unfolding draft_fits
     too_many k =
-        let u : leb (length (boxes_to rs n)) R ≡ false = lt-leb (length (boxes_to rs n)) R (omega (arith, rects_length rs n)) in
+        let u : leb (length (boxes_to rs n)) R ≡ false = lt-leb (length (boxes_to rs n)) R (omega (arith, boxes_length rs n)) in
         let v : leb (length l) R ≡ false = lt-leb (length l) R (omega (arith, listed.count)) in
         let c : p ≡ refused NoRoom 0 = e ∙ rw u in
         (c ∙ rw (fit, same-rects, v), λ q. absurd (false≢true (sym (ap accepted c) ∙ q)))

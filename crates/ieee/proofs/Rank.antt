@@ -371,4 +371,3 @@ middle_part = let h : middle + middle - middle ≡ middle = omega arith in ap (�
 -- p is at most the whole part of x when p is at most x
 pub to_floor : (x p : ℕ) → p * unit ≤ x → p ≤ x / unit
 to_floor x p h = (le-div_iff_mul-le unit_pos).1 h
-

@@ -12,7 +12,6 @@ use lib.Dec.{T, ltb, eqb, is_le, leb-zero, eqb→eq, eqb_refl}
 use lib.Pow.{pow-lt}
 use lib.Ieee.Fits.{and_r, and_i, neg-fits}
 use lib.Ieee.Bits.{of_bits-to_bits}
-use lib.Ieee.Scale.{finite}
 use Rattle.ieee.specs.Values.{zero_of, Zero, Same}
 use Rattle.ieee.proofs.Rank.{middle, scale, rank, ordered, ordered_fits, not_nan, middle_pos, magnitude_lt, scale_pos, rank_eq}
 use Rattle.ieee.proofs.Patterns.{pattern, bits_lt, neg_rank}
@@ -337,6 +336,3 @@ same_rank x y (inr p) = ap rank p.0.1 ∙ zero_middle p.0.0 ∙ sym (zero_middle
     zero_middle : (s : Bool) → rank (zero_of s) ≡ middle
     zero_middle true = unfold rank in omega (arith, zero-mul (scale (pos 0)))
     zero_middle false = unfold rank in omega (arith, zero-mul (scale (pos 0)))
-
-pub same_finite : (x y : Float) → Same x y → finite x ≡ finite y
-same_finite x y p = lift_test finite (λ s t. refl) x y p

@@ -20,7 +20,8 @@ use Rattle.commands.specs.declared.Glyph.{Glyph}
 use Rattle.commands.specs.declared.DrawCommand.TheVariants.{GlyphRun}
 use Rattle.commands.specs.Bounds.{Command}
 use Rattle.operand_equality.specs.Operands.{same_glyph}
-use Rattle.painting.specs.Painters.{is_run, font_of, size_of, GlyphRule}
+use Rattle.painting.specs.Painters.{is_run, font_of, GlyphRule}
+use Rattle.commands.specs.Sizes.{size_of}
 
 -- ---- the test
 unfoldable pub every : {A : Type 0} → (A → Bool) → List A → Bool

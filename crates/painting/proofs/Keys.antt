@@ -10,7 +10,8 @@ use Rattle.commands.specs.declared.DrawCommand.TheVariants.{FillPath, StrokePath
 use Rattle.commands.specs.Bounds.{Command, transform_of}
 use Rattle.operand_equality.specs.Operands.{same_affine, same_bits, same_glyph, same_clips}
 use Rattle.equality.specs.Drawings.{run_alike, runs_alike, runs_alike_clipped}
-use Rattle.painting.specs.Painters.{is_run, font_of, size_of, brush_of, Key, key_of, same_key}
+use Rattle.painting.specs.Painters.{is_run, font_of, brush_of, Key, key_of, same_key}
+use Rattle.commands.specs.Sizes.{size_of}
 
 -- ---- a key's parts
 pub record KeyParts (j k : Key) : Type 0 where

@@ -1,7 +1,6 @@
 -- Painters: what they are given, and the four rules that they keep.
 use Rattle.std.specs.Prelude.{◌≡◌, Bool, true, false, ◌&&◌, List, ℕ, ◌<◌, eqb, Float}
-use Rattle.std.specs.Float.{binary64}
-use Rattle.std.specs.Float.Ieee.{of_bits, eq}
+use Rattle.std.specs.Float.Ieee.{eq}
 use Rattle.lists.specs.Members.{In}
 use Rattle.geometry.specs.declared.Rect.{Rect}
 use Rattle.geometry.specs.Boxes.{same_edges}
@@ -14,6 +13,7 @@ use Rattle.commands.specs.Bounds.{Command, transform_of, bounds, glyph_bounds}
 use Rattle.operand_equality.specs.Operands.{same_affine, same_glyph, same_clips}
 use Rattle.equality.specs.Drawings.{equal, fills_alike}
 use Rattle.index_words.specs.Painting.{paint_all}
+use Rattle.commands.specs.Sizes.{size_of}
 
 -- pixel (p, q) of a screen of w by h
 pub record Pixel (w h : ℕ) : Type 0 where
@@ -29,18 +29,12 @@ is_run (StrokePath path b t stroke brush) = false
 is_run (GlyphRun font size t brush b n) = true
 is_run (Scene content generation target t b) = false
 
--- a run's font, size and brush; asked of runs alone
+-- a run's font and brush; asked of runs alone, as its size is (`size_of`)
 abbrev pub font_of : DrawCommand → ℕ
 font_of (FillPath path b t brush) = 0
 font_of (StrokePath path b t stroke brush) = 0
 font_of (GlyphRun font size t brush b n) = font
 font_of (Scene content generation target t b) = 0
-
-abbrev pub size_of : DrawCommand → Float
-size_of (FillPath path b t brush) = of_bits binary64 0
-size_of (StrokePath path b t stroke brush) = of_bits binary64 0
-size_of (GlyphRun font size t brush b n) = size
-size_of (Scene content generation target t b) = of_bits binary64 0
 
 abbrev pub brush_of : DrawCommand → ℕ
 brush_of (FillPath path b t brush) = brush

@@ -1,15 +1,39 @@
--- Boxes of words from a place on: each is the box at its own place, one more stands at their end, and one fewer behind the first. Assumes nothing.
+-- Boxes of words: how many they are, each at its own place; from a place on, one more stands at their end, and one fewer behind the first. Assumes nothing.
 use mathlib.Core.Path.{◌≡◌, refl, sym, ap, ◌∙◌}
 use mathlib.Core.List.{List, [], ◌∷◌, ◌++◌}
-use Prim.Native.Nat.{ℕ, zero, suc, ◌+◌, ◌*◌}
+use Prim.Native.Nat.{ℕ, zero, suc, ◌+◌, ◌*◌, ◌<◌}
+use native.Mathlib.Nat.{not-suc-le-zero}
 use native.Mathlib.Omega.{arith}
-use lib.ListN.{drop, get_or}
+use lib.ListN.{length, drop, get_or, get_or-append, length-append}
+use lib.Seq.{get_or-append_seam, ext_get_or}
 use lib.Ieee.{Float, nan}
 use Rattle.std.proofs.lemmas.List.{get_or-drop}
+use Rattle.lists.proofs.Picks.{by_le}
 use Rattle.geometry.specs.declared.Rect.{Rect}
 use Rattle.rect_words.specs.Words.{box_at, boxes_to}
 
 module _ (ws : List Float) where
+  -- the first n are as many, and box i is the one at place i
+  pub boxes_length : (n : ℕ) → length (boxes_to ws n) ≡ n
+  unfolding boxes_to
+  boxes_length zero = refl
+  boxes_length (suc n) = length-append (boxes_to ws n) (box_at ws n ∷ []) ∙ omega (arith, boxes_length n)
+
+  pub box_of : (n i : ℕ) (d : Rect) → i < n → get_or (boxes_to ws n) i d ≡ box_at ws i
+  unfolding boxes_to
+  box_of zero i d h = absurd (not-suc-le-zero h)
+  box_of (suc n) i d h = by_le n i
+      (λ g. let z : i ≡ length (boxes_to ws n) = omega (arith, boxes_length n) in
+      let y : n ≡ i = omega arith in
+      ap (λ (j : ℕ). get_or (boxes_to ws n ++ (box_at ws n ∷ [])) j d) z ∙ get_or-append_seam (boxes_to ws n) (box_at ws n) [] d ∙ ap (box_at ws) y)
+      (λ g. get_or-append (boxes_to ws n) (box_at ws n ∷ []) d i (omega (arith, boxes_length n)) ∙ box_of n i d g)
+
+  -- they are those of a list where each box in the words is the list's
+  pub boxes_are : (l : List Rect) (d : Rect) → ((i : ℕ) → i < length l → box_at ws i ≡ get_or l i d) → boxes_to ws (length l) ≡ l
+  boxes_are l d e =
+      let b = boxes_length (length l) in
+      ext_get_or d _ _ b (λ i h. let g : i < length l = omega (arith, b) in box_of (length l) i d g ∙ e i g)
+
   -- box j of those from place i on
   pub box_from : (i j k : ℕ) → k ≡ i + j → box_at (drop (4 * i) ws) j ≡ box_at ws k
   box_from i j k e =
