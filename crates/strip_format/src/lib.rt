@@ -59,9 +59,8 @@ impl Kind {
         ensures { result ≡ Format.length_of (code self) }
     {
         match self {
-            Kind::End => layout::END_LENGTH,
+            Kind::End | Kind::Pop => layout::CODE_LENGTH,
             Kind::Clip => layout::CLIP_LENGTH,
-            Kind::Pop => layout::POP_LENGTH,
             Kind::Fill => layout::FILL_LENGTH,
             Kind::Stroke => layout::STROKE_LENGTH,
             Kind::Run => layout::RUN_LENGTH,
