@@ -11,6 +11,7 @@ use Rattle.device.specs.declared.DeviceRegion.{DeviceRegion}
 use Rattle.device.specs.Region.{from_logical}
 use Rattle.commands.specs.declared.Join.TheVariants as J
 use Rattle.commands.specs.declared.Cap.TheVariants as C
+use Rattle.commands.specs.declared.Stroke.{Stroke}
 use Rattle.commands.specs.declared.DrawCommand.{DrawCommand}
 use Rattle.commands.specs.declared.DrawCommand.TheVariants.{FillPath, StrokePath}
 use Rattle.commands.specs.Bounds.{Command, bounds}
@@ -52,7 +53,7 @@ filled cs = drawn (FillPath 1 (edges 0 0 10 10) identity 1) cs
 
 abbrev stroked : Command
 stroked =
-    let stroke = record { width = whole 2; join = J.Miter; miter_limit = whole 4; start_cap = C.Butt; end_cap = C.Butt; dash = 0 } in
+    let stroke : Stroke = record { width = whole 2; join = J.Miter; miter_limit = whole 4; start_cap = C.Butt; end_cap = C.Butt; dash = 0 } in
     drawn (StrokePath 1 (edges 10 10 20 20) identity stroke 1) []
 
 -- the rows of a screen 40 high in bands of 16
