@@ -17,7 +17,6 @@ use Rattle.strip.specs.Reading.{commands_of}
 use Rattle.strip_laws.specs.Limits.{Within}
 use Rattle.screen.specs.declared.Screen.{Screen}
 use Rattle.screen.specs.Sizes.{fits}
-use Rattle.screen.proofs.Laws.{sizes_of}
 use Rattle.frame.specs.declared.Strips.{Strips}
 use Rattle.frame.specs.Frame.{sizes_at, header_of, first_of, both_of}
 use Rattle.stored_lists.specs.Stored.{commands_in, Stored}

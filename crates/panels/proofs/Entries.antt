@@ -1,6 +1,6 @@
 -- Demand 3 for the two entries: under every header their calls are as `Plans` asks, so the panels agree. Assumes nothing.
 use mathlib.Core.Path.{◌≡◌, refl, sym, ap, ◌∙◌, subst}
-use mathlib.Core.Bool.{Bool, true, false, ◌&&◌, true≢false}
+use mathlib.Core.Bool.{true, true≢false}
 use mathlib.Core.List.{List, ◌++◌, map, append_assoc}
 use mathlib.Core.Option.{Option, none, some}
 use Prim.Native.Nat.{ℕ, ◌+◌, ◌≤◌, ◌<◌}
@@ -13,7 +13,6 @@ use Rattle.std.specs.Prelude.{Result, Ok, Err}
 use Rattle.refusals.specs.declared.Fault.TheVariants.{Size, TrailingByte}
 use Rattle.refusals.specs.declared.Refusal.{Refusal}
 use Rattle.refusals.specs.Table.{refused}
-use Rattle.lists.specs.Pick.{pick}
 use Rattle.lists.proofs.Picks.{pick_cases}
 use Rattle.commands.specs.Bounds.{Command, bounds}
 use Rattle.little_endian.specs.Words.{u32_at}

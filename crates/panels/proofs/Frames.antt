@@ -3,7 +3,6 @@ use mathlib.Core.Path.{◌≡◌, sym, ◌∙◌}
 use mathlib.Core.Bool.{true, false, true≢false}
 use mathlib.Core.List.{List, [], ◌∷◌}
 use mathlib.Core.Option.{Option, some}
-use Prim.Native.Nat.{ℕ}
 use Rattle.lists.specs.Members.{All}
 use Rattle.lists.proofs.Members.{in_all}
 use Rattle.commands.specs.Bounds.{Command}

@@ -36,7 +36,7 @@ use Rattle.runtime.specs.Work.{work_of}
 use Rattle.plans.specs.Drafts.{first_outcome, next_outcome}
 use Rattle.plans.specs.Space.{Lent}
 use Rattle.plans.specs.Answers.{items_fit, draft_fits, planned, answer_of}
-use Rattle.rect_words.specs.Words.{box_at, boxes_to}
+use Rattle.rect_words.specs.Words.{boxes_to}
 
 -- 8, 8 and 4, u32 each
 abbrev pub header : List ℕ
