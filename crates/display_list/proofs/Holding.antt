@@ -23,7 +23,7 @@ use Rattle.display_list.specs.Lists.{clip_room, pushed_clip, clip_boxes, clip_nu
 use Rattle.display_list.proofs.Rooms.{fits_clip}
 
 -- the state stands for these open clips, oldest first, and the space holds them
-pub record Held (cs : List Rect) (d : ListState) (bs : List Float) (ns : List ℕ) : Type 0 where
+pub record HoldsClips (cs : List Rect) (d : ListState) (bs : List Float) (ns : List ℕ) : Type 0 where
   pub clips : Clips d.clips bs ns
   pub low : d.top ≤ d.clips
   pub chained : chain bs ns d.top ≡ cs
@@ -33,14 +33,14 @@ pub record Held (cs : List Rect) (d : ListState) (bs : List Float) (ns : List �
 abbrev pub begun : ListState → ListState
 begun d = record { clips = d.clips; top = 0; depth = 0; commands = d.commands }
 
-pub held_begin : (cs : List Rect) (d : ListState) (bs : List Float) (ns : List ℕ) → Held cs d bs ns → Held [] (begun d) bs ns
+pub held_begin : (cs : List Rect) (d : ListState) (bs : List Float) (ns : List ℕ) → HoldsClips cs d bs ns → HoldsClips [] (begun d) bs ns
 held_begin cs d bs ns h = record { clips = h.clips; low = omega arith; chained = chain_none bs ns; depth = refl }
 
-pub held_none : (bs : List Float) (ns : List ℕ) → Held [] (record { clips = 0; top = 0; depth = 0; commands = 0 }) bs ns
+pub held_none : (bs : List Float) (ns : List ℕ) → HoldsClips [] (record { clips = 0; top = 0; depth = 0; commands = 0 }) bs ns
 held_none bs ns = record { clips = no_clips bs ns; low = omega arith; chained = chain_none bs ns; depth = refl }
 
 -- ---- a push
-module _ (cs : List Rect) (d : ListState) (bs : List Float) (ns : List ℕ) (b : Rect) (h : Held cs d bs ns) (p : 8 * d.clips + 8 ≤ length bs) (q : d.clips < length ns) where
+module _ (cs : List Rect) (d : ListState) (bs : List Float) (ns : List ℕ) (b : Rect) (h : HoldsClips cs d bs ns) (p : 8 * d.clips + 8 ≤ length bs) (q : d.clips < length ns) where
   room : Room d.clips d.top bs ns
   room = record { boxes = p; numbers = q; lower = h.low }
 
@@ -59,7 +59,7 @@ module _ (cs : List Rect) (d : ListState) (bs : List Float) (ns : List ℕ) (b :
   pub push_keeps : (x : ℕ) → x ≤ d.clips → chain (clip_boxes d bs ns b) (clip_numbers d bs ns) x ≡ chain bs ns x
   push_keeps x l = (λ i. chain (stored_boxes i) (stored_numbers i) x) ∙ put_kept d.clips d.top bs ns b h.clips room x l
 
-  pub held_push : Held (cs ++ (b ∷ [])) (pushed_clip d) (clip_boxes d bs ns b) (clip_numbers d bs ns)
+  pub held_push : HoldsClips (cs ++ (b ∷ [])) (pushed_clip d) (clip_boxes d bs ns b) (clip_numbers d bs ns)
   held_push = rw (stored_boxes, stored_numbers) record {
     clips = put_clips d.clips d.top bs ns b h.clips room;
     low = omega arith;
@@ -90,7 +90,7 @@ snoc_same l m a b e =
     let n : length m ≡ length l = omega (arith, length-append l (a ∷ []), length-append m (b ∷ []), ap length e) in
     sym (take_at l (a ∷ []) (length l) refl) ∙ ap (take (length l)) e ∙ take_at m (b ∷ []) (length l) n
 
-module _ (cs : List Rect) (b : Rect) (d : ListState) (bs : List Float) (ns : List ℕ) (h : Held (cs ++ (b ∷ [])) d bs ns) where
+module _ (cs : List Rect) (b : Rect) (d : ListState) (bs : List Float) (ns : List ℕ) (h : HoldsClips (cs ++ (b ∷ [])) d bs ns) where
   count : d.depth ≡ length cs + 1
   count = omega (arith, h.depth, length-append cs (b ∷ []))
 
@@ -107,7 +107,7 @@ module _ (cs : List Rect) (b : Rect) (d : ListState) (bs : List Float) (ns : Lis
       pick_false (eqb d.depth 0) _ _ (ne_eqb d.depth 0 (λ e. omega (arith, count)))
       ∙ (λ i. record { clips = d.clips; top = pick_false (eqb d.top 0) 0 (below_at ns d.top) (ne_eqb d.top 0 (λ e. omega (arith, some))) i; depth = d.depth - 1; commands = d.commands })
 
-  pub held_pop : Held cs (popped_clip d ns) bs ns
+  pub held_pop : HoldsClips cs (popped_clip d ns) bs ns
   held_pop = rw popped (let l = h.clips.chained.lower (d.top - 1) (omega (arith, some, h.low)) in record {
     clips = h.clips;
     low = omega (arith, some, h.low);
@@ -116,7 +116,7 @@ module _ (cs : List Rect) (b : Rect) (d : ListState) (bs : List Float) (ns : Lis
   })
 
 -- ---- boxes under the open clips
-module _ (cs : List Rect) (d : ListState) (bs : List Float) (ns : List ℕ) (h : Held cs d bs ns) where
+module _ (cs : List Rect) (d : ListState) (bs : List Float) (ns : List ℕ) (h : HoldsClips cs d bs ns) where
   pub open_rect_is : (b : Rect) → open_rect d bs b ≡ clipped cs b
   unfolding open_rect
   open_rect_is b =

@@ -25,7 +25,7 @@ use Rattle.band_index.proofs.Answers.{stored_front}
 use Rattle.plans.specs.declared.Plan.{Plan}
 use Rattle.plans.specs.Drafts.{Draft}
 use Rattle.plans.specs.Answers.{draft_fits, planned, accepted}
-use Rattle.drafting.specs.Drafted.{draft_in, rooms, judged, indexed, StandsIf}
+use Rattle.drafting.specs.Drafted.{draft_in, rooms, judged, indexed, WrittenIf}
 use Rattle.drafting.proofs.Words.{rects_words, part_boxes}
 use Rattle.rect_words.proofs.Lists.{boxes_length}
 use Rattle.rect_words.specs.Words.{boxes_to}
@@ -105,7 +105,7 @@ module _ (screen : Screen) (rs : List Float) (n : ℕ) (ibs : List Float) (first
       pub regions_over : G < t.regions → Refused
       regions_over k = regions_many (omega (arith, (answered (schedule screen (boxes_to rs n)) gs new t (given q)).count_is))
 
-      pub regions_fit : t.regions ≤ G → {p : Result Plan Refusal} {ws : List ℕ} (old : List ℕ) → W ≤ length old → p ≡ indexed (index_of (drop (4 * first) ibs) commands screen) W n commands t.regions t.pixels → ws ≡ stored (index_of (drop (4 * first) ibs) commands screen) old → (p ≡ judged (rooms R G W) d) × StandsIf p d rs new ws
+      pub regions_fit : t.regions ≤ G → {p : Result Plan Refusal} {ws : List ℕ} (old : List ℕ) → W ≤ length old → p ≡ indexed (index_of (drop (4 * first) ibs) commands screen) W n commands t.regions t.pixels → ws ≡ stored (index_of (drop (4 * first) ibs) commands screen) old → (p ≡ judged (rooms R G W) d) × WrittenIf p d rs new ws
       unfolding draft_fits
       regions_fit m {p} {ws} old room e f = (answer_is, stands)
         where
@@ -125,7 +125,7 @@ module _ (screen : Screen) (rs : List Float) (n : ℕ) (ibs : List Float) (first
           low true g q = leb-true (length words) W g
           low false g q = absurd (false≢true q)
 
-          stands : StandsIf p d rs new ws
+          stands : WrittenIf p d rs new ws
           stands q =
               let r = boxes_length rs n in
               let small = low (leb (length words) W) refl (sym (ap accepted e) ∙ q) in

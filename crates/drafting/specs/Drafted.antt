@@ -41,14 +41,14 @@ indexed words room rects commands regions pixels =
     pick (leb (length words) room) (Ok (planned rects (length words) (work_of commands regions pixels))) (refused NoRoom 0)
 
 -- the words of a draft stand in front of what was lent for it
-pub record Stands (d : Draft) (rs : List Float) (gs ws : List ℕ) : Type 0 where
+pub record DraftWritten (d : Draft) (rs : List Float) (gs ws : List ℕ) : Type 0 where
   pub rects : take (4 * length d.rects) rs ≡ Rects.words_of_rects d.rects
   pub regions : take (4 * length d.regions) gs ≡ Schedule.words_of_regions d.regions
   pub words : take (length d.words) ws ≡ d.words
 
 -- they stand there where the draft is accepted
-abbrev pub StandsIf : Result Plan Refusal → Draft → List Float → List ℕ → List ℕ → Type 0
-StandsIf r d rs gs ws = accepted r ≡ true → Stands d rs gs ws
+abbrev pub WrittenIf : Result Plan Refusal → Draft → List Float → List ℕ → List ℕ → Type 0
+WrittenIf r d rs gs ws = accepted r ≡ true → DraftWritten d rs gs ws
 
 -- the scratch is long enough for what is said to be lent
 pub record Ready (s : Screen) (rs : List Float) (commands : ℕ) (work spans gs ws : List ℕ) (z : Lent) : Type 0 where

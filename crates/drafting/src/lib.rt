@@ -4,7 +4,7 @@
 ghost use Rattle.std.specs.Prelude.{◌≡◌, ◌/◌, ◌≤◌, length, true};
 ghost use Rattle.screen.specs.Sizes.{fits};
 ghost use Rattle.band_index.specs.Answer.{index_of, stored};
-ghost use Rattle.drafting.specs.Drafted.{draft_in, rooms, indexed, judged, StandsIf, Ready};
+ghost use Rattle.drafting.specs.Drafted.{draft_in, rooms, indexed, judged, WrittenIf, Ready};
 
 use plans::{Plan, Room};
 use refusals::{Fault, Refusal};
@@ -55,7 +55,7 @@ pub fn draft(
 ) -> Result<Plan, Refusal>
     requires { Ready screen rects.now (length boxes.now / 4) work.old spans.old regions.old words.old (rooms room.rects room.regions room.words) }
     ensures answer { result ≡ judged (rooms room.rects room.regions room.words) (draft_in screen rects.now n boxes.now 0 (length boxes.now / 4)) }
-    ensures stands { StandsIf result (draft_in screen rects.now n boxes.now 0 (length boxes.now / 4)) rects.now regions.new words.new }
+    ensures stands { WrittenIf result (draft_in screen rects.now n boxes.now 0 (length boxes.now / 4)) rects.now regions.new words.new }
 {
     if room.rects < n {
         return Err(Fault::NoRoom.at(0));

@@ -22,16 +22,16 @@ use Rattle.frame.specs.Frame.{sizes_at, header_of, first_of, both_of}
 use Rattle.stored_lists.specs.Stored.{commands_in, Stored}
 use Rattle.recording.specs.Recorded.{Space, SameLengths, Room, Holds, Two, RecordsFirst, RecordsBoth}
 use Rattle.plans.specs.declared.Plan.{Plan}
-use Rattle.plans.specs.Drafts.{Items, Outcome, turned, drafted, screen_rect, on_first, on_both, first_outcome, next_outcome, items_of_both}
+use Rattle.plans.specs.Drafts.{Items, Outcome, refuses, drafted, screen_rect, on_first, on_both, first_outcome, next_outcome, items_of_both}
 use Rattle.plans.specs.Space.{Lent}
 use Rattle.plans.specs.Answers.{items_fit, answer_of}
 use Rattle.commands.specs.Bounds.{bounds}
 use Rattle.drafting.proofs.Words.{part_count, part_boxes}
-use Rattle.drafting.specs.Drafted.{draft_in, rooms, judged, StandsIf, Ready}
+use Rattle.drafting.specs.Drafted.{draft_in, rooms, judged, WrittenIf, Ready}
 use Rattle.frame_drafts.specs.declared.Entry.{Entry}
 use Rattle.frame_drafts.specs.declared.Entry.TheVariants.{First, Next}
 use Rattle.frame_drafts.specs.declared.Changed.{Changed}
-use Rattle.frame_drafts.specs.Scratch.{lent_scratch, on_strips, outcome, Roomy, StandsFor}
+use Rattle.frame_drafts.specs.Scratch.{lent_scratch, on_strips, outcome, Roomy, WrittenFor}
 use Rattle.frame_drafts.specs.Listing.{Stand}
 use Rattle.frame_drafts.specs.declared.Items.{Items as Counts}
 use Rattle.frame_drafts.specs.Counts.{count_both, counted, counted_both}
@@ -48,7 +48,7 @@ abbrev of_counts : Counts → Items
 of_counts c = record { commands = c.commands; glyphs = c.glyphs; clips = c.clips }
 
 abbrev Meets : Lent → Outcome → Result Plan Refusal → List Float → List ℕ → List ℕ → Type 0
-Meets z o p rs gs ws = (p ≡ answer_of z o) × StandsFor p o rs gs ws
+Meets z o p rs gs ws = (p ≡ answer_of z o) × WrittenFor p o rs gs ws
 
 -- ---- two strips
 module _ (s : List ℕ) {z y : Space} (glyphs : List ℕ) {r : Result Strips Refusal} (a : r ≡ both_of s) (l : SameLengths z y) (k : RecordsBoth s y r) where
@@ -188,7 +188,7 @@ module _ (screen : Screen) (o : Outcome) (z : Space) (glyphs : List ℕ) (before
     unfolding items_fit
     still_fit = g.fit
 
-    pub stand_meets : 4 * R ≤ length before → (p : Result Plan Refusal) (gs ws : List ℕ) → p ≡ judged (rooms R G W) (draft_in screen rs c.n part 0 (length part / 4)) → StandsIf p (draft_in screen rs c.n part 0 (length part / 4)) rs gs ws → Meets (scratch_for z glyphs R G W) o p rs gs ws
+    pub stand_meets : 4 * R ≤ length before → (p : Result Plan Refusal) (gs ws : List ℕ) → p ≡ judged (rooms R G W) (draft_in screen rs c.n part 0 (length part / 4)) → WrittenIf p (draft_in screen rs c.n part 0 (length part / 4)) rs gs ws → Meets (scratch_for z glyphs R G W) o p rs gs ws
     stand_meets m p gs ws e f =
         rw g.is_draft (answered screen g.rects g.commands before rs c.n part 0 (length part / 4) R G W g.listed m part_bounds (many ∙ g.count) (scratch_for z glyphs R G W) g.items still_fit refl refl refl p gs ws e f)
 
@@ -205,8 +205,8 @@ header_fits s =
     λ e. pick_cases HeaderFits (fits (sizes_at s)) _ _ (λ f. f) (λ f. tt)
 
 -- what is refused leaves nothing to stand
-pub none_stands : (why : Refusal) (o : Outcome) (rs : List Float) (gs ws : List ℕ) → StandsFor (Err why) o rs gs ws
-none_stands why (turned r) rs gs ws = tt
+pub none_stands : (why : Refusal) (o : Outcome) (rs : List Float) (gs ws : List ℕ) → WrittenFor (Err why) o rs gs ws
+none_stands why (refuses r) rs gs ws = tt
 none_stands why (drafted i d) rs gs ws = λ e. absurd (false≢true e)
 
 module _ (s : List ℕ) (r : Result Screen Refusal) (a : r ≡ header_of s) where

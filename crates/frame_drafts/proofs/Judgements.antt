@@ -18,7 +18,7 @@ use Rattle.plans.specs.declared.Plan.{Plan}
 use Rattle.plans.specs.Drafts.{Draft, draft, Items, drafted, screen_rect}
 use Rattle.plans.specs.Space.{Lent}
 use Rattle.plans.specs.Answers.{items_fit, draft_fits, accepted, answer_of}
-use Rattle.drafting.specs.Drafted.{draft_in, rooms, judged, StandsIf}
+use Rattle.drafting.specs.Drafted.{draft_in, rooms, judged, WrittenIf}
 use Rattle.drafting.proofs.Words.{rects_back}
 use Rattle.rect_words.proofs.Lists.{boxes_length}
 use Rattle.rect_words.specs.Words.{boxes_to}
@@ -33,17 +33,17 @@ module _ (screen : Screen) (l : List Rect) (cs : List Command) (old rs : List Fl
       let r : boxes_to rs n ≡ l = ap (boxes_to rs) m ∙ rects_back l rs (screen_rect screen) (ap (λ (j : ℕ). take (4 * j) rs) (sym m) ∙ front) in
       λ i. record { rects = r i; regions = schedule screen (r i); words = index_words screen.band_height (row_count screen.height screen.band_height) (boxes i); emitted = many i }
 
-  module _ (z : Lent) (i : Items) (fit : items_fit z i ≡ true) (same-rects : z.rects ≡ R) (same-regions : z.regions ≡ G) (same-words : z.words ≡ W) (p : Result Plan Refusal) (gs ws : List ℕ) (e : p ≡ judged (rooms R G W) (draft_in screen rs n ibs first count)) (f : StandsIf p (draft_in screen rs n ibs first count) rs gs ws) where
+  module _ (z : Lent) (i : Items) (fit : items_fit z i ≡ true) (same-rects : z.rects ≡ R) (same-regions : z.regions ≡ G) (same-words : z.words ≡ W) (p : Result Plan Refusal) (gs ws : List ℕ) (e : p ≡ judged (rooms R G W) (draft_in screen rs n ibs first count)) (f : WrittenIf p (draft_in screen rs n ibs first count) rs gs ws) where
     abbrev Answered : Type 0
-    Answered = (p ≡ answer_of z (drafted i (draft screen l cs))) × StandsIf p (draft screen l cs) rs gs ws
+    Answered = (p ≡ answer_of z (drafted i (draft screen l cs))) × WrittenIf p (draft screen l cs) rs gs ws
 
-    fits_small : n ≤ R → (p ≡ answer_of z (drafted i (draft screen l cs))) × StandsIf p (draft screen l cs) rs gs ws
+    fits_small : n ≤ R → (p ≡ answer_of z (drafted i (draft screen l cs))) × WrittenIf p (draft screen l cs) rs gs ws
     unfolding draft_fits
     fits_small k =
         let d = same_draft k in
-        (e ∙ ap (judged (rooms R G W)) d ∙ rw (fit, same-rects, same-regions, same-words), subst (λ (x : Draft). StandsIf p x rs gs ws) d f)
+        (e ∙ ap (judged (rooms R G W)) d ∙ rw (fit, same-rects, same-regions, same-words), subst (λ (x : Draft). WrittenIf p x rs gs ws) d f)
 
-    too_many : R < n → (p ≡ answer_of z (drafted i (draft screen l cs))) × StandsIf p (draft screen l cs) rs gs ws
+    too_many : R < n → (p ≡ answer_of z (drafted i (draft screen l cs))) × WrittenIf p (draft screen l cs) rs gs ws
     unfolding draft_fits
     too_many k =
         let u : leb (length (boxes_to rs n)) R ≡ false = lt-leb (length (boxes_to rs n)) R (omega (arith, boxes_length rs n)) in
@@ -51,7 +51,7 @@ module _ (screen : Screen) (l : List Rect) (cs : List Command) (old rs : List Fl
         let c : p ≡ refused NoRoom 0 = e ∙ rw u in
         (c ∙ rw (fit, same-rects, v), λ q. absurd (false≢true (sym (ap accepted c) ∙ q)))
 
-    pub answered : (p ≡ answer_of z (drafted i (draft screen l cs))) × StandsIf p (draft screen l cs) rs gs ws
+    pub answered : (p ≡ answer_of z (drafted i (draft screen l cs))) × WrittenIf p (draft screen l cs) rs gs ws
     answered = by_le n R fits_small too_many
 
 -- ---- items that do not fit

@@ -3,12 +3,12 @@ use Rattle.refusals.specs.declared.Refusal.{Refusal}
 use Rattle.std.specs.Prelude.{ℕ, ◌*◌, ◌/◌, ◌≤◌, min, List, length, Float, Result}
 use Rattle.screen.specs.declared.Screen.{Screen}
 use Rattle.plans.specs.declared.Plan.{Plan}
-use Rattle.plans.specs.Drafts.{Outcome, turned, drafted, on_first, on_both, first_outcome, next_outcome}
+use Rattle.plans.specs.Drafts.{Outcome, refuses, drafted, on_first, on_both, first_outcome, next_outcome}
 use Rattle.frame.specs.Frame.{first_of, both_of}
 use Rattle.frame_drafts.specs.declared.Entry.{Entry}
 use Rattle.frame_drafts.specs.declared.Entry.TheVariants.{First, Next}
 use Rattle.plans.specs.Space.{Lent}
-use Rattle.drafting.specs.Drafted.{StandsIf}
+use Rattle.drafting.specs.Drafted.{WrittenIf}
 
 -- by the lengths of what is lent for clips, commands and glyphs, and by how many rectangles, regions and index words are lent
 abbrev pub lent_scratch : List Float → List ℕ → List ℕ → List Float → List ℕ → ℕ → ℕ → ℕ → Lent
@@ -40,6 +40,6 @@ pub record Roomy (rs : List Float) (work gs ws : List ℕ) (rects regions words 
   pub word_room : words ≤ length ws
 
 -- where the call is accepted, the words of its draft stand in front of that space
-abbrev pub StandsFor : Result Plan Refusal → Outcome → List Float → List ℕ → List ℕ → Type 0
-StandsFor r (turned why) rs gs ws = Unit {0}
-StandsFor r (drafted i d) rs gs ws = StandsIf r d rs gs ws
+abbrev pub WrittenFor : Result Plan Refusal → Outcome → List Float → List ℕ → List ℕ → Type 0
+WrittenFor r (refuses why) rs gs ws = Unit {0}
+WrittenFor r (drafted i d) rs gs ws = WrittenIf r d rs gs ws

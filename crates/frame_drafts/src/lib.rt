@@ -7,7 +7,7 @@ ghost use Rattle.recording.specs.Recorded.{space};
 ghost use Rattle.frame.specs.Frame.{first_of, both_of};
 ghost use Rattle.plans.specs.Drafts.{screen_rect, on_first, on_both};
 ghost use Rattle.plans.specs.Answers.{items_fit, answer_of};
-ghost use Rattle.frame_drafts.specs.Scratch.{lent_scratch, on_strips, outcome, Roomy, StandsFor};
+ghost use Rattle.frame_drafts.specs.Scratch.{lent_scratch, on_strips, outcome, Roomy, WrittenFor};
 ghost use Rattle.frame_drafts.specs.Listing.{Lists};
 ghost use Rattle.frame_drafts.specs.Counts.{counted, counted_both};
 
@@ -212,7 +212,7 @@ pub fn draft_frame(
     requires { Roomy rects.old work.old regions.old words.old room.rects room.regions room.words }
     ensures answer { result
         ≡ answer_of (lent_scratch boxes.old below.old items.old item_boxes.old glyph_items.now room.rects room.regions room.words) (outcome entry s.now) }
-    ensures stands { StandsFor result (outcome entry s.now) rects.new regions.new words.new }
+    ensures stands { WrittenFor result (outcome entry s.now) rects.new regions.new words.new }
 {
     let screen = frame::read_header(s)?;
     let changed = list_frame(

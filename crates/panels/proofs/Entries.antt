@@ -28,7 +28,7 @@ use Rattle.screen.specs.Sizes.{fits}
 use Rattle.frame.specs.Frame.{sizes_at, header_of, ended, with_old, then_new, then_end, first_of, both_of}
 use Rattle.frame.proofs.Checks.{both_next}
 use Rattle.plans.specs.declared.Plan.{Plan}
-use Rattle.plans.specs.Drafts.{Outcome, turned, drafted, on_first, on_both, on_header, first_outcome, next_outcome}
+use Rattle.plans.specs.Drafts.{Outcome, refuses, drafted, on_first, on_both, on_header, first_outcome, next_outcome}
 use Rattle.plans.specs.Space.{Slices, Lent, lent_of}
 use Rattle.plans.specs.Answers.{answer_of, accepted, published, index_words_of}
 use Rattle.panels.specs.Entries.{call_of, drafted_regions, entries, EntriesAgree}
@@ -51,7 +51,7 @@ module _ (header : List ℕ) (twelve : length header ≡ 12) where
       front i j e h = let f : j ≡ i = omega arith in rw f (sym (get_or-append header s 0 i (omega (arith, twelve))))
 
   -- it is turned away, or its sizes fit
-  pub by_header : (P : Outcome → Type 0) (s : List ℕ) (k : Screen → Outcome) → ((why : Refusal) → P (turned why)) → (fits screen ≡ true → P (k screen)) → P (on_header (header_of (header ++ s)) k)
+  pub by_header : (P : Outcome → Type 0) (s : List ℕ) (k : Screen → Outcome) → ((why : Refusal) → P (refuses why)) → (fits screen ≡ true → P (k screen)) → P (on_header (header_of (header ++ s)) k)
   unfolding header_of
   by_header P s k away f =
       rw (le-ltb (length (header ++ s)) 12 (omega (arith, twelve, length-append header s)), word_same s 0 (omega arith), word_same s 4 (omega arith), word_same s 8 (omega arith))
@@ -65,7 +65,7 @@ module _ (header : List ℕ) (twelve : length header ≡ 12) where
     words : index_words_of x ≡ index_words screen.band_height (row_count screen.height screen.band_height) (map bounds (commands s))
 
   abbrev WhereDrafted : Option (List ℕ) → List ℕ → Outcome → Type 0
-  WhereDrafted last s (turned why) = Unit {0}
+  WhereDrafted last s (refuses why) = Unit {0}
   WhereDrafted last s (drafted i d) = Drafted last s (drafted i d)
 
   first_drafted : (s : List ℕ) → WhereDrafted none s (first_outcome (header ++ s))
@@ -116,7 +116,7 @@ module _ (header : List ℕ) (twelve : length header ≡ 12) where
 
   -- ---- an accepted call
   accepted_drafted : (last : Option (List ℕ)) (s : List ℕ) (z : Lent) (x : Outcome) → WhereDrafted last s x → accepted (answer_of z x) ≡ true → Drafted last s x
-  accepted_drafted last s z (turned why) m e = absurd (true≢false (sym e))
+  accepted_drafted last s z (refuses why) m e = absurd (true≢false (sym e))
   accepted_drafted last s z (drafted i d) m e = m
 
   call_made : (last : Option (List ℕ)) (s : List ℕ) (z : Slices) → Call (entries header) (OneStrip header) last s z → Drafted last s (call_of header last s)

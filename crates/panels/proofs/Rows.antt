@@ -25,7 +25,7 @@ use Rattle.strip.specs.Reading.{commands_of}
 use Rattle.strip.specs.declared.Cursor.{Cursor}
 use Rattle.frame.specs.declared.Strips.{Strips}
 use Rattle.frame.specs.Frame.{sizes_at, first_of, both_of}
-use Rattle.plans.specs.Drafts.{Outcome, turned, drafted, screen_rect, on_first, on_both, first_outcome, next_outcome}
+use Rattle.plans.specs.Drafts.{Outcome, refuses, drafted, screen_rect, on_first, on_both, first_outcome, next_outcome}
 use Rattle.plans.specs.Space.{Lent, lent_of}
 use Rattle.plans.specs.Answers.{answer_of, accepted, index_words_of}
 use Rattle.panels.specs.Entries.{call_of, drafted_regions}
@@ -48,7 +48,7 @@ module _ (header : List ℕ) (twelve : length header ≡ 12) where
     words_are : index_words_of x ≡ index_words screen.band_height (row_count screen.height screen.band_height) boxes
 
   abbrev WhereDrawn : Outcome → Type 0
-  WhereDrawn (turned why) = Unit {0}
+  WhereDrawn (refuses why) = Unit {0}
   WhereDrawn (drafted i d) = Drawn (drafted i d)
 
   first_drawn : fits screen ≡ true → (s : List ℕ) (x : Result Cursor Refusal) → WhereDrawn (on_first screen s x)
@@ -74,7 +74,7 @@ module _ (header : List ℕ) (twelve : length header ≡ 12) where
       (λ z. both_drawn z (header ++ (old ++ s)) (both_of (header ++ (old ++ s))))
 
   drawn : (z : Lent) (x : Outcome) → WhereDrawn x → accepted (answer_of z x) ≡ true → Drawn x
-  drawn z (turned why) m e = absurd (true≢false (sym e))
+  drawn z (refuses why) m e = absurd (true≢false (sym e))
   drawn z (drafted i d) m e = m
 
   module _ (x : Outcome) (m : Drawn x) (rest others tail : List ℕ) (whole : others ≡ index_words_of x ++ tail) where

@@ -5,7 +5,7 @@ use Rattle.std.proofs.Math.Option.{Option, none, some}
 use Rattle.frame.specs.Frame.{header_length, sizes_at}
 use Rattle.device.specs.declared.DeviceRegion.{DeviceRegion}
 use Rattle.strip.specs.Reading.{commands_of}
-use Rattle.plans.specs.Drafts.{Outcome, turned, drafted, first_outcome, next_outcome}
+use Rattle.plans.specs.Drafts.{Outcome, refuses, drafted, first_outcome, next_outcome}
 use Rattle.plans.specs.Space.{Slices, lent_of}
 use Rattle.plans.specs.Answers.{answer_of, accepted, index_words_of, published}
 use Rattle.panels.specs.Panels.{Planner, PanelsAgree}
@@ -17,7 +17,7 @@ call_of header (some old) s = next_outcome (header ++ (old ++ s))
 
 -- the regions of an accepted call
 abbrev pub drafted_regions : Outcome → List DeviceRegion
-drafted_regions (turned why) = []
+drafted_regions (refuses why) = []
 drafted_regions (drafted i d) = d.regions
 
 -- strips of any bytes, any lent space; the index words are those that the call leaves in the space lent for them

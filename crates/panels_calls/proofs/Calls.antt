@@ -16,7 +16,7 @@ use Rattle.frame_drafts.specs.declared.Entry.{Entry}
 use Rattle.frame_drafts.specs.declared.Entry.TheVariants.{First, Next}
 use Rattle.frame_drafts.specs.Scratch.{outcome}
 use Rattle.plans.specs.declared.Plan.{Plan}
-use Rattle.plans.specs.Drafts.{Draft, Outcome, turned, drafted, first_outcome, next_outcome}
+use Rattle.plans.specs.Drafts.{Draft, Outcome, refuses, drafted, first_outcome, next_outcome}
 use Rattle.plans.specs.Space.{Slices, Lent, lent_of}
 use Rattle.plans.specs.Answers.{items_fit, draft_fits, counts, answer_of, accepted, counts_of, region_words_of, index_words_of, published}
 use Rattle.planner.specs.Calls.{Promise}
@@ -30,7 +30,7 @@ planned false d e = absurd (true≢false (sym e))
 
 -- the regions that an accepted call leaves in their slice, read back
 regions_left : (z : Lent) (x : Outcome) (old : List ℕ) → accepted (answer_of z x) ≡ true → regions_to (published (answer_of z x) (region_words_of x) old) (counts_of (answer_of z x)).regions ≡ drafted_regions x
-regions_left z (turned why) old e = absurd (true≢false (sym e))
+regions_left z (refuses why) old e = absurd (true≢false (sym e))
 regions_left z (drafted i d) old e =
     ap (λ (p : Result Plan Refusal). regions_to (published p (words_of_regions d.regions) old) (counts_of p).regions) (planned (items_fit z i && draft_fits z d) d e)
     ∙ regions_back d.regions (drop (length (words_of_regions d.regions)) old)

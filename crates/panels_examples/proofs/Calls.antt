@@ -25,7 +25,7 @@ use Rattle.scheduler.specs.Schedule.{bands_to}
 use Rattle.strip.specs.Reading.{read_from, list_from, commands_of}
 use Rattle.strip.specs.Steps.{due_fits, draw_step, run_step, last_step, glyph_step, effect_of, step_at}
 use Rattle.strip_format.specs.Format.{length_of, command_at, glyphs_from}
-use Rattle.plans.specs.Drafts.{Items, Draft, turned, drafted, screen_rect, first_outcome, next_outcome}
+use Rattle.plans.specs.Drafts.{Items, Draft, refuses, drafted, screen_rect, first_outcome, next_outcome}
 use Rattle.panels_examples.specs.Pages.{box, bytes, glyph_bytes, strip, header, page_one, page_two}
 use Rattle.panels_examples.specs.Frames.{region, upper, lower}
 
@@ -47,7 +47,7 @@ pub record Worked : Type 0 where
   pub reads_one : commands_of (header ++ strip page_one) 12 ≡ page_one
   pub reads_two : commands_of (header ++ strip page_two) 12 ≡ page_two
   pub first : first_outcome (header ++ strip page_one) ≡ drafted (items 2) first_draft
-  pub cut : next_outcome (header ++ (strip page_one ++ (3 ∷ []))) ≡ turned (refusal CutOff 303)
+  pub cut : next_outcome (header ++ (strip page_one ++ (3 ∷ []))) ≡ refuses (refusal CutOff 303)
   pub turn : next_outcome (header ++ (strip page_one ++ strip page_two)) ≡ drafted (items 4) turn_draft
 
 pub worked : Worked

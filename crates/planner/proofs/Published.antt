@@ -19,11 +19,11 @@ use Rattle.geometry.specs.declared.Rect.{Rect}
 use Rattle.rect_list.specs.Rects as Rects
 use Rattle.scheduler.proofs.Writes.{words_length}
 use Rattle.plans.specs.declared.Plan.{Plan}
-use Rattle.plans.specs.Drafts.{Draft, Items, Outcome, turned, drafted}
+use Rattle.plans.specs.Drafts.{Draft, Items, Outcome, refuses, drafted}
 use Rattle.plans.specs.Space.{Lent}
 use Rattle.plans.specs.Answers.{items_fit, draft_fits, counts, answer_of, rect_words_of, region_words_of, index_words_of, published}
-use Rattle.drafting.specs.Drafted.{Stands}
-use Rattle.frame_drafts.specs.Scratch.{StandsFor, lent_scratch}
+use Rattle.drafting.specs.Drafted.{DraftWritten}
+use Rattle.frame_drafts.specs.Scratch.{WrittenFor, lent_scratch}
 use Rattle.planner.specs.Calls.{rect_count, region_count, word_count, Copies}
 
 -- a rectangle has four words
@@ -54,21 +54,21 @@ draft_fit z d e =
     record { rects = omega (arith, p); regions = omega (arith, q); words = s }
 
 pub answer_fits : (z : Lent) (o : Outcome) → Fits z (answer_of z o)
-answer_fits z (turned why) = none_fits z why
+answer_fits z (refuses why) = none_fits z why
 answer_fits z (drafted i d) =
     pick_cases (Fits z) (items_fit z i && draft_fits z d) (counts d) (refused NoRoom 0)
     (λ e. draft_fit z d (is_true _ (and_r (items_fit z i) (draft_fits z d) (holds _ e))))
     (λ e. none_fits z (refusal NoRoom 0))
 
 -- ---- what is copied is what is published
-module _ (z : Lent) (o : Outcome) (r : Result Plan Refusal) (a : r ≡ answer_of z o) (rs : List Float) (gs ws : List ℕ) (s : StandsFor r o rs gs ws) (old-rs : List Float) (old-gs old-ws : List ℕ) where
+module _ (z : Lent) (o : Outcome) (r : Result Plan Refusal) (a : r ≡ answer_of z o) (rs : List Float) (gs ws : List ℕ) (s : WrittenFor r o rs gs ws) (old-rs : List Float) (old-gs old-ws : List ℕ) where
   abbrev Publishes : Outcome → Result Plan Refusal → Type 0
   Publishes o r =
       (take (rect_count r) rs ++ drop (rect_count r) old-rs ≡ published r (rect_words_of o) old-rs)
       × ((take (region_count r) gs ++ drop (region_count r) old-gs ≡ published r (region_words_of o) old-gs)
       × (take (word_count r) ws ++ drop (word_count r) old-ws ≡ published r (index_words_of o) old-ws))
 
-  draft_published : (i : Items) (d : Draft) → Stands d rs gs ws → Publishes (drafted i d) (counts d)
+  draft_published : (i : Items) (d : Draft) → DraftWritten d rs gs ws → Publishes (drafted i d) (counts d)
   draft_published i d t = (
     rw (rects_length d.rects, t.rects) refl,
     (
@@ -77,16 +77,16 @@ module _ (z : Lent) (o : Outcome) (r : Result Plan Refusal) (a : r ≡ answer_of
     ),
   )
 
-  published_of : (o : Outcome) → StandsFor (answer_of z o) o rs gs ws → Publishes o (answer_of z o)
-  published_of (turned why) t = (refl, (refl, refl))
+  published_of : (o : Outcome) → WrittenFor (answer_of z o) o rs gs ws → Publishes o (answer_of z o)
+  published_of (refuses why) t = (refl, (refl, refl))
   published_of (drafted i d) t =
-      pick_cases (λ r. StandsFor r (drafted i d) rs gs ws → Publishes (drafted i d) r) (items_fit z i && draft_fits z d) (counts d) (refused NoRoom 0)
+      pick_cases (λ r. WrittenFor r (drafted i d) rs gs ws → Publishes (drafted i d) r) (items_fit z i && draft_fits z d) (counts d) (refused NoRoom 0)
       (λ e t. draft_published i d (t refl))
       (λ e t. (refl, (refl, refl)))
       t
 
   pub publishes : Publishes o r
-  publishes = subst (Publishes o) (sym a) (published_of o (subst (λ (q : Result Plan Refusal). StandsFor q o rs gs ws) a s))
+  publishes = subst (Publishes o) (sym a) (published_of o (subst (λ (q : Result Plan Refusal). WrittenFor q o rs gs ws) a s))
 
 -- ---- a call
 -- the rooms that a call works out are the space lent: what stands in scratch after the draft can be copied

@@ -7,20 +7,20 @@ use Rattle.refusals.specs.declared.Refusal.{Refusal}
 use Rattle.refusals.specs.Table.{refused}
 use Rattle.lists.proofs.Picks.{pick_map, pick_same}
 use Rattle.plans.specs.declared.Plan.{Plan}
-use Rattle.plans.specs.Drafts.{Outcome, turned, drafted}
+use Rattle.plans.specs.Drafts.{Outcome, refuses, drafted}
 use Rattle.plans.specs.Space.{Lent}
 use Rattle.plans.specs.Answers.{items_fit, draft_fits, counts, answer_of, number_of, position_of, counts_of, call_number, call_position, call_counts, Answered}
 
 number_is : (z : Lent) (o : Outcome) → number_of (answer_of z o) ≡ call_number z o
-number_is z (turned why) = refl
+number_is z (refuses why) = refl
 number_is z (drafted i d) = pick_map number_of (items_fit z i && draft_fits z d) (counts d) (refused NoRoom 0)
 
 position_is : (z : Lent) (o : Outcome) → position_of (answer_of z o) ≡ call_position z o
-position_is z (turned why) = refl
+position_is z (refuses why) = refl
 position_is z (drafted i d) = pick_map position_of (items_fit z i && draft_fits z d) (counts d) (refused NoRoom 0) ∙ pick_same (items_fit z i && draft_fits z d) 0
 
 counts_are : (z : Lent) (o : Outcome) → counts_of (answer_of z o) ≡ call_counts z o
-counts_are z (turned why) = refl
+counts_are z (refuses why) = refl
 counts_are z (drafted i d) = pick_map counts_of (items_fit z i && draft_fits z d) (counts d) (refused NoRoom 0)
 
 pub answered : (z : Lent) (o : Outcome) (r : Result Plan Refusal) → r ≡ answer_of z o → Answered z o r

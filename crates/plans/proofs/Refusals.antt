@@ -6,17 +6,17 @@ use Rattle.lists.proofs.Picks.{pick_cases}
 use Rattle.refusals.specs.declared.Fault.TheVariants.{NoRoom}
 use Rattle.refusals.specs.Table.{number, refused}
 use Rattle.refusals.proofs.Numbers.{number_positive}
-use Rattle.plans.specs.Drafts.{Outcome, turned, drafted, first_outcome, next_outcome}
+use Rattle.plans.specs.Drafts.{Outcome, refuses, drafted, first_outcome, next_outcome}
 use Rattle.plans.specs.Space.{Lent}
 use Rattle.plans.specs.Answers.{items_fit, draft_fits, counts, answer_of, accepted, number_of}
 
 -- where there is no draft, its number is above 0
 abbrev pub NumberedOutcome : Outcome → Type 0
-NumberedOutcome (turned why) = 0 < number why.fault
+NumberedOutcome (refuses why) = 0 < number why.fault
 NumberedOutcome (drafted i d) = Unit {0}
 
 numbered : (o : Outcome) → NumberedOutcome o
-numbered (turned why) = number_positive why.fault
+numbered (refuses why) = number_positive why.fault
 numbered (drafted i d) = tt
 
 pub first_numbered : (s : List ℕ) → NumberedOutcome (first_outcome s)
@@ -27,7 +27,7 @@ next_numbered s = numbered (next_outcome s)
 
 -- ---- the answer
 number_tells : (z : Lent) (o : Outcome) → NumberedOutcome o → eqb (number_of (answer_of z o)) 0 ≡ accepted (answer_of z o)
-number_tells z (turned why) h = ne_eqb (number why.fault) 0 (λ e. omega arith)
+number_tells z (refuses why) h = ne_eqb (number why.fault) 0 (λ e. omega arith)
 number_tells z (drafted i d) h = pick_cases (λ x. eqb (number_of x) 0 ≡ accepted x) (items_fit z i && draft_fits z d) (counts d) (refused NoRoom 0) (λ e. refl) (λ e. refl)
 
 -- 0 exactly where there is a plan

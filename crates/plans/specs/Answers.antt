@@ -9,7 +9,7 @@ use Rattle.scheduler.specs.Schedule as Schedule
 use Rattle.runtime.specs.declared.FrameWork.{FrameWork}
 use Rattle.runtime.specs.Work.{work_of}
 use Rattle.plans.specs.declared.Plan.{Plan}
-use Rattle.plans.specs.Drafts.{Draft, Items, Outcome, turned, drafted}
+use Rattle.plans.specs.Drafts.{Draft, Items, Outcome, refuses, drafted}
 use Rattle.plans.specs.Space.{Lent}
 
 -- "commands, glyphs, clips, rectangles, regions or index words exceed the space lent": they do not
@@ -28,7 +28,7 @@ counts d = Ok (planned (length d.rects) (length d.words) (work_of d.emitted (len
 
 -- "Space is checked in the listed order after both strips are read", with 10 at 0 throughout
 abbrev pub answer_of : Lent → Outcome → Result Plan Refusal
-answer_of z (turned why) = Err why
+answer_of z (refuses why) = Err why
 answer_of z (drafted i d) = pick (items_fit z i && draft_fits z d) (counts d) (refused NoRoom 0)
 
 -- ---- the paper's words for each case of an answer
@@ -71,15 +71,15 @@ counts_of (Err why) = no_counts
 
 -- ---- and what they are for a call
 abbrev pub call_number : Lent → Outcome → ℕ
-call_number z (turned why) = number why.fault
+call_number z (refuses why) = number why.fault
 call_number z (drafted i d) = pick (items_fit z i && draft_fits z d) 0 10
 
 abbrev pub call_position : Lent → Outcome → ℕ
-call_position z (turned why) = why.position
+call_position z (refuses why) = why.position
 call_position z (drafted i d) = 0
 
 abbrev pub call_counts : Lent → Outcome → Counts
-call_counts z (turned why) = no_counts
+call_counts z (refuses why) = no_counts
 call_counts z (drafted i d) =
     pick (items_fit z i && draft_fits z d)
     (record {
@@ -102,15 +102,15 @@ pub record Answered (z : Lent) (o : Outcome) (r : Result Plan Refusal) : Type 0 
 -- ---- output
 -- the words of a draft; asked of accepted calls alone
 abbrev pub rect_words_of : Outcome → List Float
-rect_words_of (turned why) = []
+rect_words_of (refuses why) = []
 rect_words_of (drafted i d) = Rects.words_of_rects d.rects
 
 abbrev pub region_words_of : Outcome → List ℕ
-region_words_of (turned why) = []
+region_words_of (refuses why) = []
 region_words_of (drafted i d) = Schedule.words_of_regions d.regions
 
 abbrev pub index_words_of : Outcome → List ℕ
-index_words_of (turned why) = []
+index_words_of (refuses why) = []
 index_words_of (drafted i d) = d.words
 
 -- "After a refusal, output space is unchanged; after acceptance, so is output space past the count."

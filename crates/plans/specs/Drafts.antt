@@ -39,7 +39,7 @@ pub record Items : Type 0 where
   pub clips : ℕ
 
 pub data Outcome : Type 0 where
-  turned : Refusal → Outcome
+  refuses : Refusal → Outcome
   drafted : Items → Draft → Outcome
 
 -- "A first frame has one rectangle, the whole screen."
@@ -54,17 +54,17 @@ items_of_both old new = record { commands = old.commands + new.commands; glyphs 
 
 abbrev pub on_first : Screen → List ℕ → Result Cursor Refusal → Outcome
 on_first screen s (Ok new) = drafted (items_of new) (draft screen (screen_rect screen ∷ []) (commands_of s header_length))
-on_first screen s (Err why) = turned why
+on_first screen s (Err why) = refuses why
 
 abbrev pub on_both : Screen → List ℕ → Result Strips Refusal → Outcome
 on_both screen s (Ok both) =
     drafted (items_of_both both.old both.new) (draft screen (diff_dirty (commands_of s header_length) (commands_of s both.old.at)) (commands_of s both.old.at))
-on_both screen s (Err why) = turned why
+on_both screen s (Err why) = refuses why
 
 -- 1 and 2 of the header have position 0
 abbrev pub on_header : Result Screen Refusal → (Screen → Outcome) → Outcome
 on_header (Ok screen) k = k screen
-on_header (Err why) k = turned why
+on_header (Err why) k = refuses why
 
 -- "A first frame has an entry point of its own: header and one strip, the same checks."
 unfoldable pub first_outcome : List ℕ → Outcome

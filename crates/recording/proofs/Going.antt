@@ -19,7 +19,7 @@ use Rattle.clips.proofs.Chaining.{chain_none}
 use Rattle.strip_format.specs.Format.{rect_at, command_at}
 use Rattle.display_list.specs.declared.ListState.{ListState}
 use Rattle.display_list.specs.Lists.{pushed_clip, clip_boxes, clip_numbers, popped_clip, open_rect, pushed, item_words, item_boxes, offset_at, clip_number_at}
-use Rattle.display_list.proofs.Holding.{Held, held_push, held_pop, push_keeps, open_rect_is, length_boxes, length_numbers}
+use Rattle.display_list.proofs.Holding.{HoldsClips, held_push, held_pop, push_keeps, open_rect_is, length_boxes, length_numbers}
 use Rattle.display_list.proofs.Items.{push_offset, push_number, push_box, offset_kept, number_kept, box_kept, length_items, length_item_boxes}
 use Rattle.strip.specs.declared.Cursor.{Cursor}
 use Rattle.strip.specs.declared.Step.{Step}
@@ -28,7 +28,7 @@ use Rattle.strip.specs.Steps.{start_at, step_at}
 use Rattle.strip.specs.Effects.{Moves, Passes}
 use Rattle.strip.specs.Reading.{on_step, read_from, read_strip, command_of, drop_last, Listing, noted, on_next, list_from, commands_of}
 use Rattle.strip.proofs.Moves.{Moved, step_moves}
-use Rattle.strip_laws.specs.Limits.{Within, Whole}
+use Rattle.strip_laws.specs.Limits.{Within, WholeCommand}
 use Rattle.strip_laws.proofs.Steps.{by_cases, Kept}
 use Rattle.strip_laws.proofs.Limits.{step_within, start_within}
 use Rattle.strip_laws.proofs.Runs.{InRun, step_in_run, Draws, step_draws}
@@ -91,9 +91,9 @@ step_tally s st l h y = by_cases s st (λ x. Kept (λ t. Tally t (noted s l x)) 
 -- ---- what the space holds on the way
 -- z is the space at the start, y the space now, l what has been listed since
 pub record Listed (s : List ℕ) (m : ℕ) (z y : Space) (d : ListState) (l : Listing) : Type 0 where
-  pub open_clips : Held l.clips d y.boxes y.below
+  pub open_clips : HoldsClips l.clips d y.boxes y.below
   pub lower : (i : ℕ) → i < d.commands → clip_number_at y.items i ≤ d.clips
-  pub whole : (i : ℕ) → i < d.commands → Whole s (offset_at y.items i)
+  pub whole : (i : ℕ) → i < d.commands → WholeCommand s (offset_at y.items i)
   pub boxed : (i : ℕ) → i < d.commands → box_at y.item_boxes i ≡ bounds (command_in s y.boxes y.below y.items i)
   pub kept : (i : ℕ) → i < m → command_in s y.boxes y.below y.items i ≡ command_in s z.boxes z.below z.items i
   pub listed : commands_in s y.boxes y.below y.items m (length l.commands) ≡ l.commands
@@ -120,7 +120,7 @@ module _ (s : List ℕ) (m : ℕ) (z y : Space) (d : ListState) (l : Listing) (h
       let n : length cs ≡ length l.clips - 1 = omega (arith, snoc_length cs b, ap length e) in
       let x : drop_last l.clips ≡ cs = ap (λ (k : List Rect). take (length l.clips - 1) k) e ∙ take_at cs (b ∷ []) (length l.clips - 1) n in
       record {
-        open_clips = subst (λ (k : List Rect). Held k (popped_clip d y.below) y.boxes y.below) (sym x) (held_pop cs b d y.boxes y.below (subst (λ (k : List Rect). Held k d y.boxes y.below) e h.open_clips));
+        open_clips = subst (λ (k : List Rect). HoldsClips k (popped_clip d y.below) y.boxes y.below) (sym x) (held_pop cs b d y.boxes y.below (subst (λ (k : List Rect). HoldsClips k d y.boxes y.below) e h.open_clips));
         lower = λ i k. omega (arith, f, h.lower i (omega (arith, g)));
         whole = λ i k. h.whole i (omega (arith, g));
         boxed = λ i k. h.boxed i (omega (arith, g));
@@ -129,7 +129,7 @@ module _ (s : List ℕ) (m : ℕ) (z y : Space) (d : ListState) (l : Listing) (h
       }
 
   -- a command more
-  module _ (at : ℕ) (box : Rect) (p : 2 * d.commands + 2 ≤ length y.items) (q : 4 * d.commands + 4 ≤ length y.item_boxes) (w : Whole s at) (drawn : Boxed s (Ok (Draw (start_at at) at box))) where
+  module _ (at : ℕ) (box : Rect) (p : 2 * d.commands + 2 ≤ length y.items) (q : 4 * d.commands + 4 ≤ length y.item_boxes) (w : WholeCommand s at) (drawn : Boxed s (Ok (Draw (start_at at) at box))) where
     abbrev cut : Rect
     cut = open_rect d y.boxes box
 
@@ -166,7 +166,7 @@ module _ (s : List ℕ) (m : ℕ) (z y : Space) (d : ListState) (l : Listing) (h
     listed_draw = record {
       open_clips = record { clips = h.open_clips.clips; low = h.open_clips.low; chained = h.open_clips.chained; depth = h.open_clips.depth };
       lower = places (λ i. clip_number_at is i ≤ d.clips) (λ i k. omega (arith, number_kept d y.items y.item_boxes at cut p q i k, h.lower i k)) (omega (arith, push_number d y.items y.item_boxes at cut p q, h.open_clips.low));
-      whole = places (λ i. Whole s (offset_at is i)) (λ i k. subst (Whole s) (sym (offset_kept d y.items y.item_boxes at cut p q i k)) (h.whole i k)) (subst (Whole s) (sym (push_offset d y.items y.item_boxes at cut p q)) w);
+      whole = places (λ i. WholeCommand s (offset_at is i)) (λ i k. subst (WholeCommand s) (sym (offset_kept d y.items y.item_boxes at cut p q i k)) (h.whole i k)) (subst (WholeCommand s) (sym (push_offset d y.items y.item_boxes at cut p q)) w);
       boxed = places (λ i. box_at ibs i ≡ bounds (command_in s y.boxes y.below is i)) (λ i k. box_kept d y.items y.item_boxes at cut p q i k ∙ h.boxed i k ∙ ap bounds (sym (before i k))) (new_box ∙ ap bounds (sym new));
       kept = λ i k. before i (omega (arith, count)) ∙ h.kept i k;
       listed =
@@ -177,7 +177,7 @@ module _ (s : List ℕ) (m : ℕ) (z y : Space) (d : ListState) (l : Listing) (h
 
 -- ---- the loop
 -- what is left to read, behind what has been listed, makes the strip's answer and its list
-pub record Going (s : List ℕ) (at c m : ℕ) (z : Space) (st : Cursor) (d : ListState) (y : Space) : Type 0 where
+pub record RecordingSoFar (s : List ℕ) (at c m : ℕ) (z : Space) (st : Cursor) (d : ListState) (y : Space) : Type 0 where
   pub fuel : ℕ
   pub enough : length s - st.at < fuel
   pub reads : read_from fuel s st ≡ read_strip s at
@@ -195,7 +195,7 @@ pub record Going (s : List ℕ) (at c m : ℕ) (z : Space) (st : Cursor) (d : Li
 abbrev pub begin : ℕ → ℕ → ListState
 begin c m = record { clips = c; top = 0; depth = 0; commands = m }
 
-pub going_start : (s : List ℕ) (at c m : ℕ) (z : Space) (st : Cursor) → st ≡ start_at at → Going s at c m z st (begin c m) z
+pub going_start : (s : List ℕ) (at c m : ℕ) (z : Space) (st : Cursor) → st ≡ start_at at → RecordingSoFar s at c m z st (begin c m) z
 going_start s at c m z st e = rw e record {
   fuel = suc (length s);
   enough = omega arith;
@@ -236,7 +236,7 @@ popped : (d : ListState) (ns : List ℕ) → (d.depth ≡ 0 → ⊥) → Popped 
 unfolding popped_clip
 popped d ns h = rw (ne_eqb d.depth 0 h) record { clips = refl; depth = refl; commands = refl }
 
-module _ (s : List ℕ) (at c m : ℕ) (z : Space) (st : Cursor) (d : ListState) (y : Space) (g : Going s at c m z st d y) (r : Result Step Refusal) (p : r ≡ step_at s st) where
+module _ (s : List ℕ) (at c m : ℕ) (z : Space) (st : Cursor) (d : ListState) (y : Space) (g : RecordingSoFar s at c m z st d y) (r : Result Step Refusal) (p : r ≡ step_at s st) where
   -- what every step gives
   record Facts (x : Result Step Refusal) : Type 0 where
     moved : Moved (length s) st x
@@ -274,7 +274,7 @@ module _ (s : List ℕ) (at c m : ℕ) (z : Space) (st : Cursor) (d : ListState)
 
   -- closer to the end, and on the way still
   abbrev pub Nearer : Cursor → ListState → Space → Type 0
-  Nearer t e w = (length s - t.at < length s - st.at) × Going s at c m z t e w
+  Nearer t e w = (length s - t.at < length s - st.at) × RecordingSoFar s at c m z t e w
 
   onward : (x : Result Step Refusal) (t : Cursor) (e : ListState) (w : Space) → r ≡ x → Onward x t e w → Nearer t e w
   unfolding read_from list_from
@@ -431,7 +431,7 @@ module _ (s : List ℕ) (at c m : ℕ) (z : Space) (st : Cursor) (d : ListState)
 
 -- ---- several steps at once that only move the cursor
 module _ (s : List ℕ) (at c m : ℕ) (z : Space) (d : ListState) (y : Space) where
-  moves_on : (n : ℕ) (st t : Cursor) → Going s at c m z st d y → Moves n s st t → (length s - t.at ≤ length s - st.at) × Going s at c m z t d y
+  moves_on : (n : ℕ) (st t : Cursor) → RecordingSoFar s at c m z st d y → Moves n s st t → (length s - t.at ≤ length s - st.at) × RecordingSoFar s at c m z t d y
   unfolding Moves
   moves_on zero st t g e = rw e (omega arith, g)
   moves_on (suc n) st t g (u, w, q) =
@@ -439,7 +439,7 @@ module _ (s : List ℕ) (at c m : ℕ) (z : Space) (d : ListState) (y : Space) w
       let k = on_next_lem s at c m z u d y h.1 (step_at s u) refl t q in
       (omega (arith, h.0, k.0), k.1)
 
-  pub on_passed : (st : Cursor) (g : Going s at c m z st d y) (r : Result Step Refusal) (p : r ≡ step_at s st) (t v : Cursor) → r ≡ Ok (Next t) → Passes s t v → (length s - v.at < length s - st.at) × Going s at c m z v d y
+  pub on_passed : (st : Cursor) (g : RecordingSoFar s at c m z st d y) (r : Result Step Refusal) (p : r ≡ step_at s st) (t v : Cursor) → r ≡ Ok (Next t) → Passes s t v → (length s - v.at < length s - st.at) × RecordingSoFar s at c m z v d y
   on_passed st g r p t v q w =
       let a = on_next_lem s at c m z st d y g r p t q in
       let b = moves_on w.steps t v a.1 w.moves in

@@ -1,4 +1,4 @@
--- What changed between two commands, told where they stand: the first is no run and an operand differs, or both are one run but for its glyphs. Assumes
+-- What changed between two commands, compared where they stand: the first is no run and an operand differs, or both are one run but for its glyphs. Assumes
 -- nothing.
 use mathlib.Core.Path.{◌≡◌, refl, sym, ap, subst, ◌∙◌}
 use mathlib.Core.Bool.{Bool, true, false, ◌&&◌, true≢false}

@@ -269,7 +269,7 @@ impl ListSpace<'_> {
     }
 
     // Appends the boxes of what changed from the command at place i to the one at place j. Most that changed differ in an operand or
-    // are RUNs of which only glyphs changed: those are told where they stand, and the others decoded.
+    // are RUNs of which only glyphs changed: those are compared where they stand, and the others decoded.
     pub fn changed_bounds(self, i: usize, j: usize, rects: &mut RectList)
         requires { Both i j self.bytes.now self.boxes.now self.below.now self.items.now self.item_boxes.now × (rects.old.count + most_boxes < 2 ^ 63) }
         ensures { AddedTo most_boxes rects.old

@@ -50,7 +50,7 @@ module _ (s : Screen) (l : List DeviceRegion) where
 -- ---- the loop
 
 -- j bands from the top are written to out: `count` regions with `pixels` pixels.
-pub record Going (s : Screen) (l : List DeviceRegion) (old out : List ℕ) (j count pixels : ℕ) : Type 0 where
+pub record SchedulingSoFar (s : Screen) (l : List DeviceRegion) (old out : List ℕ) (j count pixels : ℕ) : Type 0 where
   pub sizes : Fits s
   pub all_fit : All Fit l
   pub bands_most : j ≤ row_count s.height s.band_height
@@ -73,7 +73,7 @@ banded {l = l} end on room same band r = record { on = omega arith; source = ome
 pub taken : {s : Screen} {j m : ℕ} {l : List DeviceRegion} {work : List ℕ} → Banded s l j work m → length (take m work) ≡ m
 taken {m = m} {work = work} n = length-take-le m work n.source
 
-pub going_start : (s : Screen) (l : List DeviceRegion) (old : List ℕ) → Fits s → All Fit l → Going s l old old 0 0 0
+pub going_start : (s : Screen) (l : List DeviceRegion) (old : List ℕ) → Fits s → All Fit l → SchedulingSoFar s l old old 0 0 0
 unfolding bands_to words_of_regions pixels_of
 going_start s l old good f = record {
   sizes = good;
@@ -87,7 +87,7 @@ going_start s l old good f = record {
   words_are = refl;
 }
 
-module _ {s : Screen} {l : List DeviceRegion} {old out : List ℕ} {j count pixels : ℕ} (g : Going s l old out j count pixels) where
+module _ {s : Screen} {l : List DeviceRegion} {old out : List ℕ} {j count pixels : ℕ} (g : SchedulingSoFar s l old out j count pixels) where
   -- the next band starts on the screen
   pub band_on : j < row_count s.height s.band_height → j * s.band_height < s.height
   band_on = row_of_band s.height s.band_height j g.sizes.some_band
@@ -126,7 +126,7 @@ module _ {s : Screen} {l : List DeviceRegion} {old out : List ℕ} {j count pixe
         record { answer = sym (simp (lt-leb (length (schedule_of s l)) (length old / 4) big)); words = λ z. absurd (omega arith) }
 
     -- they fit, and are written
-    pub going_next : m ≤ length old / 4 - count → (p : ℕ) → p ≡ pixels_of (map from_yx (take m work)) → (next : List ℕ) → length next ≡ length out → next ≡ take (4 * count) out ++ words_of_regions (map from_yx (take m work)) ++ drop (4 * (count + m)) out → Going s l old next (j + 1) (count + m) (pixels + p)
+    pub going_next : m ≤ length old / 4 - count → (p : ℕ) → p ≡ pixels_of (map from_yx (take m work)) → (next : List ℕ) → length next ≡ length out → next ≡ take (4 * count) out ++ words_of_regions (map from_yx (take m work)) ++ drop (4 * (count + m)) out → SchedulingSoFar s l old next (j + 1) (count + m) (pixels + p)
     going_next fits p ep next len e =
         let z : 4 * (count + m) ≡ 4 * count + 4 * m = omega arith in
         record {

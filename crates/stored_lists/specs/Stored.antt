@@ -5,7 +5,7 @@ use Rattle.commands.specs.Bounds.{Command, bounds}
 use Rattle.clips.specs.Chains.{chain, Clips}
 use Rattle.display_list.specs.Lists.{offset_at, clip_number_at}
 use Rattle.strip.specs.Reading.{command_of}
-use Rattle.strip_laws.specs.Limits.{Whole}
+use Rattle.strip_laws.specs.Limits.{WholeCommand}
 use Rattle.rect_words.specs.Words.{box_at}
 
 -- the command at place i: what stands at its offset, under the clips up to its clip number
@@ -24,5 +24,5 @@ pub record Stored (n : ℕ) (s : List ℕ) (bs : List Float) (ns is : List ℕ) 
   pub items : 2 * n ≤ length is
   pub boxes : 4 * n ≤ length ibs
   pub lower : (i : ℕ) → i < n → clip_number_at is i ≤ used
-  pub whole : (i : ℕ) → i < n → Whole s (offset_at is i)
+  pub whole : (i : ℕ) → i < n → WholeCommand s (offset_at is i)
   pub boxed : (i : ℕ) → i < n → box_at ibs i ≡ bounds (command_in s bs ns is i)

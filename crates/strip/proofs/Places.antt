@@ -24,10 +24,10 @@ use Rattle.strip_format.proofs.Commands.{command_fill, command_stroke, command_r
 use Rattle.operand_checks.specs.Operands.{operands_at}
 use Rattle.operand_checks.proofs.Floats.{clip_finite, glyph_finite, glyph_floats, fill_finite, stroke_finite, run_finite, scene_finite}
 use Rattle.strip.specs.Steps.{announced, Draws}
-use Rattle.strip.specs.Effects.{Stands, DrawsAt, OwnBounds}
+use Rattle.strip.specs.Effects.{CommandChecked, DrawsAt, OwnBounds}
 
 -- the boxes of a CLIP and of a GLYPH
-module _ (s : List ℕ) (at b : ℕ) (w : Stands s at b) where
+module _ (s : List ℕ) (at b : ℕ) (w : CommandChecked s at b) where
   pub clip_known : b ≡ 1 → FourFinite s (at + 1)
   clip_known e = clip_finite s at (subst (λ (n : ℕ). operands_at s at n ≡ Ok tt) e w.operands)
 
@@ -101,25 +101,25 @@ module _ (s : List ℕ) (at : ℕ) where
         rect_here = λ n z u. box n z u ∙ ap (λ (x : DrawCommand). local_with x u) here;
       }
 
-  fill : Stands s at 3 → Placed s at 3
+  fill : CommandChecked s at 3 → Placed s at 3
   unfolding affine_offset rect_offset
   fill w = place 3 (fill_at s at) (command_fill s at w.byte w.room) (fill_finite s at w.operands) (omega (arith, w.room, length_fill)) (omega (arith, w.room, length_fill)) refl (λ e. absurd (omega (arith, e))) (λ n z u. refl)
 
-  stroke : Stands s at 4 → Placed s at 4
+  stroke : CommandChecked s at 4 → Placed s at 4
   unfolding affine_offset rect_offset
   stroke w = place 4 (stroke_path_at s at) (command_stroke s at w.byte w.room) (stroke_finite s at w.operands) (omega (arith, w.room, length_stroke)) (omega (arith, w.room, length_stroke)) refl (λ e u. refl) (λ n z. absurd (n refl))
 
-  run : Stands s at 5 → Placed s at 5
+  run : CommandChecked s at 5 → Placed s at 5
   unfolding affine_offset rect_offset
   run w = place 5 (run_at s at) (command_run s at w.byte w.room) (run_finite s at w.operands) (omega (arith, w.room, length_run)) (omega (arith, w.room, length_run)) refl (λ e. absurd (omega (arith, e))) (λ n z u. sym (pick_true (eqb (u16_at s (at + 101)) 0) (rect_at s (at + 69)) u (eq-eqb (u16_at s (at + 101)) 0 z)))
 
-  scene : Stands s at 7 → Placed s at 7
+  scene : CommandChecked s at 7 → Placed s at 7
   unfolding affine_offset rect_offset
   scene w = place 7 (scene_at s at) (command_scene s at w.byte w.room) (scene_finite s at w.operands) (omega (arith, w.room, length_scene)) (omega (arith, w.room, length_scene)) refl (λ e. absurd (omega (arith, e))) (λ n z u. refl)
 
   module _ (b : ℕ) (w : DrawsAt s at b) where
     placed : Placed s at b
-    placed = by_kind (λ (n : ℕ). Stands s at n → Placed s at n) b w.stands.known w.draws fill stroke run scene w.stands
+    placed = by_kind (λ (n : ℕ). CommandChecked s at n → Placed s at n) b w.stands.known w.draws fill stroke run scene w.stands
 
     -- what is read at the offsets that the code works out
     module _ (p : ℕ) (e : p ≡ affine_offset at b) where

@@ -40,7 +40,7 @@ last_effect st m box = pick (eqb st.due 1) (Drawn (glyph_read st box) st.run st.
 
 -- ---- the operands of a command, once they passed
 -- a command with this byte stands whole at an offset, and its operands pass
-pub record Stands (s : List ℕ) (at b : ℕ) : Type 0 where
+pub record CommandChecked (s : List ℕ) (at b : ℕ) : Type 0 where
   pub byte : get_or s at 0 ≡ b
   pub known : b ≤ Layout.last_code
   pub room : at + length_of b ≤ length s
@@ -48,7 +48,7 @@ pub record Stands (s : List ℕ) (at b : ℕ) : Type 0 where
 
 -- and draws
 pub record DrawsAt (s : List ℕ) (at b : ℕ) : Type 0 where
-  pub stands : Stands s at b
+  pub stands : CommandChecked s at b
   pub draws : Draws b
 
 -- the box of the command at an offset before its transform, whatever the union of its glyph boxes

@@ -11,7 +11,7 @@ ghost use Rattle.strip_format.specs.Finite.{FourFinite};
 ghost use Rattle.strip.specs.Steps as Steps;
 ghost use Rattle.strip.specs.Reading as Reading;
 ghost use Rattle.strip.specs.Effects as Effects;
-ghost use Rattle.strip.specs.Effects.{settled, drawn_or_many, last_effect, Stands, DrawsAt, OwnBounds};
+ghost use Rattle.strip.specs.Effects.{settled, drawn_or_many, last_effect, CommandChecked, DrawsAt, OwnBounds};
 ghost use Rattle.strip.specs.Effects.{GlyphDue, GoesOn, NearGoesOn, NearRun, GlyphPlaced, OnlyMoves, Passes};
 
 use affine::Affine;
@@ -257,9 +257,9 @@ fn due_fits(kind: Kind, due: u64) -> bool
     }
 }
 
-// The kind is handed on as it is written, not as it was read: the compiler then makes a row of code for each kind, in which all offsets stand.
+// The kind is handed on as it is written, not as it was read: the compiler then makes code of its own for each kind, in which all offsets stand.
 fn effect_of(s: &[u8], st: Cursor, kind: Kind) -> Result<Effect, Refusal>
-    requires { Stands s.now st.at (code kind) × (Steps.due_fits (code kind) st.due ≡ true) }
+    requires { CommandChecked s.now st.at (code kind) × (Steps.due_fits (code kind) st.due ≡ true) }
     ensures { settled result ≡ Steps.effect_of s.now st (code kind) }
 {
     match kind {

@@ -25,7 +25,7 @@ use Rattle.strip.specs.declared.Step.TheVariants.{Next, Clip, Pop, Draw, End}
 use Rattle.strip.specs.Steps.{start_at, unite, step_at}
 use Rattle.strip.specs.Reading.{command_of, Listing, noted, commands_of}
 use Rattle.strip_laws.proofs.Steps.{Alone, by_cases, list_keeps}
-use Rattle.strip_laws.proofs.Runs.{Shown, Behind, none_shown, unite_is, next_shown, InRun, step_in_run}
+use Rattle.strip_laws.proofs.Runs.{Shown, GlyphsRead, none_shown, unite_is, next_shown, InRun, step_in_run}
 use Rattle.strip_laws.proofs.Numbers.{one_rect, Opens, step_opens}
 use Rattle.std.specs.Prelude.{Some, Result, Ok, Err}
 
@@ -56,7 +56,7 @@ unfolding command_at
 run_is s at is h = rw (is, length_run, le-leb (at + 103) (length s) h)
 
 -- a run's united box at its last GLYPH is the union of all its glyph boxes
-pub last_united : (s : List ℕ) (st : Cursor) → Behind s st → st.due ≡ 1 → unite st (rect_at s (st.at + 13)) ≡ local_bounds (command_at s st.run) (glyphs_of s st.run)
+pub last_united : (s : List ℕ) (st : Cursor) → GlyphsRead s st → st.due ≡ 1 → unite st (rect_at s (st.at + 13)) ≡ local_bounds (command_at s st.run) (glyphs_of s st.run)
 last_united s st b one =
     let n : suc b.read ≡ glyph_count (command_at s st.run) = omega (arith, b.left, one) in
     unite_is s st b

@@ -18,7 +18,7 @@ use Rattle.strip.specs.declared.Step.TheVariants.{Next, Clip, Pop, Draw, End}
 use Rattle.strip.specs.Steps.{start_at, step_at}
 use Rattle.strip.specs.Reading.{on_step, read_from, read_strip, command_of, Listing, noted, on_next, list_from, commands_of}
 use Rattle.strip.proofs.Moves.{Moved, step_moves}
-use Rattle.strip_laws.specs.Limits.{Whole}
+use Rattle.strip_laws.specs.Limits.{WholeCommand}
 use Rattle.strip_laws.proofs.Steps.{Kept}
 use Rattle.strip_laws.proofs.Runs.{InRun, step_in_run, Draws, step_draws}
 use Rattle.strip_format.proofs.Alike.{glyph_same_at}
@@ -59,7 +59,7 @@ module _ (s r : List ℕ) (by : ℕ) (same : (i j : ℕ) → j ≡ by + i → i 
       let rest = glyphs_same k (at + 45) (to + 45) (omega arith) (λ u. omega arith) in
       λ i. g i ∷ rest i
 
-  listed_same : (at to : ℕ) (under : List Rect) → to ≡ by + at → Whole s at → command_of s at under ≡ command_of r to under
+  listed_same : (at to : ℕ) (under : List Rect) → to ≡ by + at → WholeCommand s at → command_of s at under ≡ command_of r to under
   listed_same at to under e w =
       let d = command_same s r by (length s) same at to e w.fits (omega arith) more in
       let g : glyphs_from s (at + 103) (glyph_count (command_at s at)) ≡ glyphs_from r (to + 103) (glyph_count (command_at r to)) = glyphs_same (glyph_count (command_at s at)) (at + 103) (to + 103) (omega arith) w.glyphs ∙ ap (λ (x : DrawCommand). glyphs_from r (to + 103) (glyph_count x)) d in

@@ -23,7 +23,7 @@ use Rattle.strip.specs.declared.Cursor.{Cursor}
 use Rattle.strip.specs.declared.Step.{Step}
 use Rattle.strip.specs.declared.Step.TheVariants.{Next, Clip, Pop, Draw, End}
 use Rattle.strip.specs.Steps.{unite, step_at}
-use Rattle.strip_laws.specs.Limits.{Whole}
+use Rattle.strip_laws.specs.Limits.{WholeCommand}
 use Rattle.strip_laws.proofs.Steps.{run_count, by_cases, Kept}
 use Rattle.std.specs.Prelude.{Some, Result, Ok, Err}
 
@@ -32,7 +32,7 @@ abbrev pub Shown : DrawCommand → Glyph → Type 0
 Shown d g = (b : Rect) × (try_transform (transform_of d) g.bounds ≡ Some b)
 
 -- the cursor stands behind some of a run's glyphs, and the rest are due
-pub record Behind (s : List ℕ) (st : Cursor) : Type 0 where
+pub record GlyphsRead (s : List ℕ) (st : Cursor) : Type 0 where
   pub read : ℕ
   pub byte : get_or s st.run 0 ≡ 5
   pub fits : st.run + 103 ≤ length s
@@ -64,7 +64,7 @@ pub none_shown : (s : List ℕ) (d : DrawCommand) (at : ℕ) → All (Shown d) (
 unfolding glyphs_from All
 none_shown s d at = tt
 
-module _ (s : List ℕ) (st : Cursor) (b : Behind s st) where
+module _ (s : List ℕ) (st : Cursor) (b : GlyphsRead s st) where
   pub unite_is : unite st (rect_at s (st.at + 13)) ≡ united (rect_at s (st.run + 69)) (glyphs_from s (st.run + 103) (suc b.read))
   unite_is = go b.read b.stands b.so_far
     where
@@ -87,7 +87,7 @@ module _ (s : List ℕ) (st : Cursor) (b : Behind s st) where
       subst (All (Shown (command_at s st.run))) (sym e) (all_append (Shown (command_at s st.run)) (glyphs_from s (st.run + 103) b.read) (glyph_at s (st.run + 103 + 45 * b.read) ∷ []) b.shown (one_shown (command_at s st.run) (glyph_at s (st.run + 103 + 45 * b.read)) own at-end))
 
 abbrev pub InRun : List ℕ → Cursor → Type 0
-InRun s st = 0 < st.due → Behind s st
+InRun s st = 0 < st.due → GlyphsRead s st
 
 pub step_in_run : (s : List ℕ) (st : Cursor) → InRun s st → Kept (InRun s) (λ t. Unit {0}) (step_at s st)
 step_in_run s st h = by_cases s st (Kept (InRun s) (λ t. Unit {0})) record {
@@ -105,7 +105,7 @@ abbrev pub Draws : List ℕ → Result Step Refusal → Type 0
 Draws s (Ok (Next t)) = Unit {0}
 Draws s (Ok (Clip t box)) = Unit {0}
 Draws s (Ok (Pop t)) = Unit {0}
-Draws s (Ok (Draw t at box)) = Whole s at
+Draws s (Ok (Draw t at box)) = WholeCommand s at
 Draws s (Ok (End t)) = Unit {0}
 Draws s (Err why) = Unit {0}
 

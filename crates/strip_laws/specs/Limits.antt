@@ -29,7 +29,7 @@ pub record Passed (at n : ℕ) (t : Cursor) : Type 0 where
   pub inside : t.at ≤ n
 
 -- a command stands whole at an offset, with its glyphs
-pub record Whole (s : List ℕ) (at : ℕ) : Type 0 where
+pub record WholeCommand (s : List ℕ) (at : ℕ) : Type 0 where
   pub fits : at + length_of (get_or s at 0) ≤ length s
   pub glyphs : 0 < glyph_count (command_at s at) → at + Layout.run_glyphs + Layout.glyph_length * glyph_count (command_at s at) ≤ length s
 

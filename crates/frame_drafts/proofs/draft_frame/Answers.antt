@@ -1,7 +1,7 @@
 use Rattle.std.proofs.lemmas.Result.{err_from_is_err_and}
 use mathlib.Core.Path.{refl, ap, subst, ◌∙◌}
 use Rattle.plans.specs.Drafts.{Outcome}
-use Rattle.frame_drafts.specs.Scratch.{StandsFor}
+use Rattle.frame_drafts.specs.Scratch.{WrittenFor}
 use Rattle.plans.specs.Answers.{answer_of}
 use Rattle.frame_drafts.proofs.Inputs.{header_sizes, header_strips, header_none, new_part, stand_ready, stand_meets}
 use Rattle.frame_drafts.proofs.draft_frame.Goals as goal
@@ -27,5 +27,5 @@ returns c =
     let o = header_strips _ _ c.in_ok-screen.ensures _ refl c.args.entry in
     record {
       answer = all.0 ∙ ap (answer_of _) o;
-      stands = subst (λ (x : Outcome). StandsFor c.draft.result x c.list_frame.new.rects c.draft.new.regions c.draft.new.words) o all.1;
+      stands = subst (λ (x : Outcome). WrittenFor c.draft.result x c.list_frame.new.rects c.draft.new.regions c.draft.new.words) o all.1;
     }

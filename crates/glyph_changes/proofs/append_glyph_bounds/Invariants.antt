@@ -1,6 +1,6 @@
 use mathlib.Core.List.{map}
 use Prim.Native.Nat.{◌+◌, ◌-◌, ◌≤◌}
-use Rattle.rect_list.proofs.Turns.{GoingTo}
+use Rattle.rect_list.proofs.Turns.{AppendedTo}
 use Rattle.glyph_changes.specs.Runs.{windowed}
 use Rattle.glyph_changes.proofs.Places.{from}
 use Rattle.glyph_changes.proofs.append_glyph_bounds.Given as goal
@@ -8,4 +8,4 @@ use Rattle.glyph_changes.proofs.append_glyph_bounds.Given as goal
 abbrev pub invariant-loop-k : goal.invariant-loop-k
 invariant-loop-k l =
     (l.first ≤ l.k) × (l.k ≤ l.run.count) × (l.rects.count + (l.run.count - l.k) ≤ l.fn.rects.count + (l.run.count - l.first))
-    × GoingTo l.fn.rects (map (windowed l.boxes l.run) (from l.s l.run.glyphs l.run.count l.first)) l.rects (map (windowed l.boxes l.run) (from l.s l.run.glyphs l.run.count l.k))
+    × AppendedTo l.fn.rects (map (windowed l.boxes l.run) (from l.s l.run.glyphs l.run.count l.first)) l.rects (map (windowed l.boxes l.run) (from l.s l.run.glyphs l.run.count l.k))

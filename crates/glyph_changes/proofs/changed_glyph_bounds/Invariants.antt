@@ -1,5 +1,5 @@
 use Prim.Native.Nat.{◌+◌, ◌-◌, ◌≤◌}
-use Rattle.rect_list.proofs.Turns.{GoingTo}
+use Rattle.rect_list.proofs.Turns.{AppendedTo}
 use Rattle.glyph_changes.specs.Runs.{glyphs_of, most_boxes, windowed}
 use Rattle.changes.specs.Changes.{changed_glyphs}
 use Rattle.glyph_changes.proofs.Places.{from}
@@ -8,4 +8,4 @@ use Rattle.glyph_changes.proofs.changed_glyph_bounds.Given as goal
 abbrev pub invariant-loop-k : goal.invariant-loop-k
 invariant-loop-k l =
     (l.rects.count + (l.old.count - l.k) + (l.new.count - l.k) ≤ l.fn.rects.count + most_boxes)
-    × GoingTo l.fn.rects (changed_glyphs (windowed l.boxes l.old) (windowed l.boxes l.new) (glyphs_of l.s l.old) (glyphs_of l.s l.new)) l.rects (changed_glyphs (windowed l.boxes l.old) (windowed l.boxes l.new) (from l.s l.old.glyphs l.old.count l.k) (from l.s l.new.glyphs l.new.count l.k))
+    × AppendedTo l.fn.rects (changed_glyphs (windowed l.boxes l.old) (windowed l.boxes l.new) (glyphs_of l.s l.old) (glyphs_of l.s l.new)) l.rects (changed_glyphs (windowed l.boxes l.old) (windowed l.boxes l.new) (from l.s l.old.glyphs l.old.count l.k) (from l.s l.new.glyphs l.new.count l.k))

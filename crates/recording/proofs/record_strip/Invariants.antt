@@ -1,11 +1,11 @@
 use lib.ListN.{length}
 use Prim.Native.Nat.{◌-◌}
 use Rattle.recording.specs.Recorded.{space}
-use Rattle.recording.proofs.Going.{Going}
+use Rattle.recording.proofs.Going.{RecordingSoFar}
 use Rattle.recording.proofs.record_strip.Given as goal
 
 abbrev pub invariant-loop-t : goal.invariant-loop-t
-invariant-loop-t l = Going l.s l.at l.clips l.commands (space l.initial.boxes l.initial.below l.initial.items l.initial.item_boxes) l.st l.list (space l.boxes l.below l.items l.item_boxes)
+invariant-loop-t l = RecordingSoFar l.s l.at l.clips l.commands (space l.initial.boxes l.initial.below l.initial.items l.initial.item_boxes) l.st l.list (space l.boxes l.below l.items l.item_boxes)
 
 abbrev pub decreases-loop-t : goal.decreases-loop-t
 decreases-loop-t l = length l.s - l.st.at

@@ -3,9 +3,9 @@ use Prim.Native.Nat.{◌/◌}
 use lib.ListN.{length}
 use Rattle.rows.specs.Rows.{row_count}
 use Rattle.bands.specs.Bands.{regions_of}
-use Rattle.scheduler.proofs.Rows.{Going}
+use Rattle.scheduler.proofs.Rows.{SchedulingSoFar}
 use Rattle.scheduler.proofs.schedule.Given as goal
 use Rattle.rect_words.specs.Words.{boxes_to}
 
 abbrev pub invariant-loop-j : goal.invariant-loop-j
-invariant-loop-j l = (l.j-end ≡ row_count l.screen.height l.screen.band_height) × (length l.work ≡ length l.initial.work) × Going l.screen (regions_of l.screen.width l.screen.height (boxes_to l.rects (length l.rects / 4))) l.initial.out l.out l.j l.count l.pixels
+invariant-loop-j l = (l.j-end ≡ row_count l.screen.height l.screen.band_height) × (length l.work ≡ length l.initial.work) × SchedulingSoFar l.screen (regions_of l.screen.width l.screen.height (boxes_to l.rects (length l.rects / 4))) l.initial.out l.out l.j l.count l.pixels

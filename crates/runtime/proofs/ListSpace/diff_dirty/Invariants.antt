@@ -1,7 +1,7 @@
 use Prim.Native.Nat.{◌*◌, ◌≤◌}
 use Rattle.stored_lists.specs.Stored.{commands_in}
 use Rattle.glyph_changes.specs.Runs.{most_boxes}
-use Rattle.rect_list.proofs.Turns.{GoingTo}
+use Rattle.rect_list.proofs.Turns.{AppendedTo}
 use Rattle.changes.specs.Changes.{diff_dirty}
 use Rattle.runtime.specs.Placed.{AlikeClips}
 use Rattle.runtime.proofs.Changes.{changed_from}
@@ -10,5 +10,5 @@ use Rattle.runtime.proofs.ListSpace.diff_dirty.Given as goal
 -- what changed from place i on is left, and the clips known are alike
 abbrev pub invariant-loop-i : goal.invariant-loop-i
 invariant-loop-i l = (l.list.count ≤ most_boxes * l.i)
-    × GoingTo l.initial.list (diff_dirty (commands_in l.self.bytes.now l.self.boxes.now l.self.below.now l.self.items.now 0 l.old) (commands_in l.self.bytes.now l.self.boxes.now l.self.below.now l.self.items.now l.old l.new)) l.list (changed_from l.self.bytes.now l.self.boxes.now l.self.below.now l.self.items.now l.old l.new l.i)
+    × AppendedTo l.initial.list (diff_dirty (commands_in l.self.bytes.now l.self.boxes.now l.self.below.now l.self.items.now 0 l.old) (commands_in l.self.bytes.now l.self.boxes.now l.self.below.now l.self.items.now l.old l.new)) l.list (changed_from l.self.bytes.now l.self.boxes.now l.self.below.now l.self.items.now l.old l.new l.i)
     × AlikeClips l.self.boxes.now l.self.below.now l.known.0 l.known.1
