@@ -27,7 +27,8 @@ changed_glyphs old new (g ∷ gs) (h ∷ hs) = changed_at old new g h ++ changed
 unfoldable pub change : Command → Command → Change
 change old new = pick (equal old new) Same (pick (fills_alike old.draw new.draw) Fills (pick (runs_alike_clipped old new) Runs Other))
 
--- and the rectangles of each case: "nothing", "`rect_difference` of old from new .. then new minus old", what changed in the glyphs, "the union of both command boxes"
+-- and the rectangles of each case: "nothing", "`rect_difference` of old from new .. then new minus old", what changed in the glyphs, "the union of both
+-- command boxes"
 abbrev pub rects_of : Change → Command → Command → List Rect
 rects_of Same old new = []
 rects_of Fills old new = rect_symmetric_difference (bounds old) (bounds new)

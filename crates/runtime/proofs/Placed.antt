@@ -6,7 +6,8 @@ use native.Mathlib.Omega.{arith}
 use lib.ListN.{length, get_or}
 use lib.Ieee.{Float}
 use Rattle.commands.specs.Bounds.{glyph_bounds}
-use Rattle.clips.specs.Chains.{Rooted}
+use Rattle.operand_equality.specs.Operands.{same_clips}
+use Rattle.clips.specs.Chains.{chain, Rooted}
 use Rattle.display_list.specs.Lists.{offset_at, clip_number_at}
 use Rattle.display_list.proofs.Holding.{glyph_bounds_is}
 use Rattle.strip_format.specs.Format.{command_at}
@@ -15,6 +16,10 @@ use Rattle.changes.specs.Changes.{changed_glyphs}
 use Rattle.stored_lists.specs.Stored.{Stored, command_in}
 use Rattle.glyph_changes.specs.Runs.{glyphs_of, windowed}
 use Rattle.runtime.specs.Placed.{run_at, Standing}
+
+-- clips compared by the numbers read
+pub clips_at : (bs : List Float) (ns : List ℕ) {x y p q : ℕ} → x ≡ p → y ≡ q → same_clips (chain bs ns x) (chain bs ns y) ≡ same_clips (chain bs ns p) (chain bs ns q)
+clips_at bs ns e f = λ t. same_clips (chain bs ns (e t)) (chain bs ns (f t))
 
 module _ (n : ℕ) (s : List ℕ) (bs : List Float) (ns is : List ℕ) (ibs : List Float) (w : Stored n s bs ns is ibs) where
   module _ (i : ℕ) (h : i < n) where

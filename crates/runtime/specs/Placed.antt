@@ -58,8 +58,8 @@ apart s p q = pick (eqb (get_or s p 0) Layout.run_code) false (pick (same_drawin
 abbrev pub SameRun : List ℕ → ℕ → ℕ → Type 0
 SameRun s p q = (kind_at s p ≡ Some RunKind) × (kind_at s q ≡ Some RunKind) × (command_at s p ≡ command_at s q)
 
--- a case that lists what changed from a command to another; of equal glyphs RUNs alike list nothing, so it need not be theirs, but the first is told of
--- equal commands alone
+-- a case whose rectangles are those of what changed from a command to another; equal commands may be told as RUNs alike too, since equal glyphs list
+-- nothing, but as the same only they are told
 pub record Tells (x : Change) (old new : Command) : Type 0 where
   pub rects : rects_of x old new ≡ changed_bounds old new
   pub equals : x ≡ Same → equal old new ≡ true

@@ -168,8 +168,8 @@ impl ListSpace<'_> {
         numbers == known || clips::same_clips(self.boxes, self.below, numbers.0, numbers.1)
     }
 
-    // How the command at place i became the one at place j, by their decoded operands, their glyphs and their clips. FILLs alike have all operands alike, so
-    // that of others only RUNs can be alike. Clips, which take the longest walk, are compared last, and once.
+    // How the command at place i became the one at place j, by their decoded operands, glyphs and clips. FILLs alike are drawn alike, so of what is
+    // not only RUNs can be alike. Clips, which take the longest walk, are compared last, and once.
     fn change_decoded(self, i: usize, j: usize) -> Change
         requires { Both i j self.bytes.now self.boxes.now self.below.now self.items.now self.item_boxes.now }
         ensures { Tells result (command_in self.entry.bytes.now self.entry.boxes.now self.entry.below.now self.entry.items.now i)
@@ -198,8 +198,9 @@ impl ListSpace<'_> {
         Change::Other
     }
 
-    // The same over bytes, where clips up to two numbers are known to be alike: most commands have the bytes of those before them, most that changed differ
-    // in an operand or are RUNs of which only glyphs changed, and none of these is decoded. RUNs alike may have equal glyphs, which lists nothing.
+    // The same over bytes, where clips up to two numbers are known to be alike: most commands have the bytes of those before them, most that changed
+    // differ in an operand or are RUNs of which only glyphs changed, and none of these is decoded. Whether glyphs changed is not asked: equal ones
+    // list nothing.
     fn change(self, i: usize, j: usize, known: (u64, u64)) -> Change
         requires { Both i j self.bytes.now self.boxes.now self.below.now self.items.now self.item_boxes.now
             × AlikeClips self.boxes.now self.below.now known.0 known.1 }
