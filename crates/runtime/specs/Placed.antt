@@ -1,5 +1,5 @@
 -- Commands at two places of a list in lent space, compared.
-use Rattle.std.specs.Prelude.{◌≡◌, Bool, true, false, List, ℕ, ◌+◌, ◌*◌, ◌≤◌, ◌<◌, eqb, length, get_or, Some, Float}
+use Rattle.std.specs.Prelude.{◌≡◌, Bool, true, false, List, ℕ, ◌+◌, ◌*◌, ◌<◌, eqb, get_or, Some, Float}
 use Rattle.lists.specs.Pick.{pick}
 use Rattle.little_endian.specs.Words.{u16_at}
 use Rattle.commands.specs.Bounds.{Command, transform_of, glyph_count}
@@ -33,10 +33,6 @@ run_at s is i =
       transform = transform_of (command_at s (offset_at is i));
       clip = clip_number_at is i;
     }
-
--- its words are there, and its bytes begin in the strip
-abbrev pub Standing : List ℕ → List ℕ → ℕ → Type 0
-Standing s is i = (2 * i + 2 ≤ length is) × (offset_at is i < length s)
 
 -- how many bytes it has, its glyphs' among them
 unfoldable pub whole_length : List ℕ → ℕ → ℕ

@@ -17,7 +17,7 @@ ghost use Rattle.stored_lists.specs.Stored.{Stored, command_in, commands_in};
 ghost use Rattle.rect_list.specs.Rects.{AddedTo, Listed};
 ghost use Rattle.glyph_changes.specs.Runs.{most_boxes};
 ghost use Rattle.runtime.specs.Placed as Placed;
-ghost use Rattle.runtime.specs.Placed.{Both, Standing, whole_length, AlikeClips, SameRun, Tells};
+ghost use Rattle.runtime.specs.Placed.{Both, whole_length, AlikeClips, SameRun, Tells};
 ghost use Rattle.runtime.specs.Work.{work_of};
 ghost use Rattle.rect_words.specs.Words.{box_at, boxes_to};
 

@@ -1,12 +1,12 @@
 -- `ListSpace::change` meets its contract: the case that the bytes tell, and else the one that the decoded commands tell. Assumes nothing.
-use Rattle.runtime.proofs.Placed.{standing}
+use Rattle.runtime.proofs.Placed.{begins}
 use Rattle.runtime.proofs.InPlace.{tells_unchanged, tells_clipped, tells_reclipped, tells_apart, tells_run}
 use Rattle.runtime.proofs.ListSpace.change.Goals as goal
 
 pub unchanged-requires : goal.unchanged-requires
 unchanged-requires c =
     let w = c.requires.0 in
-    rw (c.offset_at-at.ensures, c.offset_at-other.ensures) ((standing _ _ _ _ _ _ w.stored _ w.old).1, (standing _ _ _ _ _ _ w.stored _ w.new).1)
+    rw (c.offset_at-at.ensures, c.offset_at-other.ensures) (begins _ _ _ _ _ _ w.stored _ w.old, begins _ _ _ _ _ _ w.stored _ w.new)
 
 pub returns-then-clips_alike : goal.returns-then-clips_alike
 returns-then-clips_alike c =
