@@ -3,7 +3,7 @@
 // one another (`Rooted`), is asked of callers: the slices are as they were lent, and any five make a `ListSpace`.
 #![tactic(auto)]
 
-ghost use Rattle.std.specs.Prelude.{◌≡◌, true, ◌&&◌, [], ◌∷◌, ◌+◌, ◌*◌, ◌^◌, ◌≤◌, ◌<◌, length, drop};
+ghost use Rattle.std.specs.Prelude.{◌≡◌, true, [], ◌+◌, ◌*◌, ◌^◌, ◌≤◌, ◌<◌, length, drop};
 ghost use Rattle.commands.specs.Bounds.{glyph_count};
 ghost use Rattle.operand_equality.specs.Operands.{same_clips};
 ghost use Rattle.clips.specs.Chains.{chain, Rooted};
