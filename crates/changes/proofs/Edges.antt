@@ -4,7 +4,7 @@ use mathlib.Core.List.{List, [], ◌∷◌, map}
 use lib.Ieee.{Float}
 use Rattle.lists.specs.Pick.{pick}
 use Rattle.lists.specs.Members.{All}
-use Rattle.lists.proofs.Members.{all_none, all_append, all_mapped}
+use Rattle.lists.proofs.Members.{all_append, all_mapped}
 use Rattle.lists.proofs.Picks.{pick_cases}
 use Rattle.geometry.specs.declared.Rect.{Rect}
 use Rattle.geometry.specs.Boxes.{intersect, union, positive_area}
@@ -13,9 +13,10 @@ use Rattle.geometry.proofs.Edges.{Edges, union_edges, intersect_edges}
 use Rattle.commands.specs.declared.Glyph.{Glyph}
 use Rattle.commands.specs.Bounds.{Command, bounds, glyph_bounds}
 use Rattle.operand_equality.specs.Operands.{same_glyph}
-use Rattle.equality.specs.Drawings.{equal, fills_alike, runs_alike_clipped}
 use Rattle.differences.specs.Differences.{with_area, rect_difference, rect_symmetric_difference}
-use Rattle.changes.specs.Changes.{changed_at, changed_glyphs, changed_bounds, diff_dirty}
+use Rattle.changes.specs.declared.Change.{Change}
+use Rattle.changes.specs.declared.Change.TheVariants.{Same, Fills, Runs, Other}
+use Rattle.changes.specs.Changes.{changed_at, changed_glyphs, change, rects_of, changed_bounds, diff_dirty}
 
 module _ (P : Float → Type 0) where
   -- P holds of every edge of the command's box and of its glyphs' boxes
@@ -69,16 +70,16 @@ module _ (P : Float → Type 0) where
         (glyphs_edges gs hs f.1 g.1)
 
   -- ---- commands, and lists of them
+  case_edges : (c : Change) (o n : Command) → Bounded o → Bounded n → All (Edges P) (rects_of c o n)
+  unfolding All
+  case_edges Same o n f g = tt
+  case_edges Fills o n f g = symmetric_edges (bounds o) (bounds n) f.box g.box
+  case_edges Runs o n f g = glyphs_edges (glyph_bounds o) (glyph_bounds n) o.glyphs n.glyphs f.glyphs g.glyphs
+  case_edges Other o n f g = (union_edges P (bounds o) (bounds n) f.box g.box, tt)
+
   pub changed_edges : (o n : Command) → Bounded o → Bounded n → All (Edges P) (changed_bounds o n)
-  unfolding changed_bounds All
-  changed_edges o n f g =
-      let ds = rect_symmetric_difference (bounds o) (bounds n) in
-      let gs = changed_glyphs (glyph_bounds o) (glyph_bounds n) o.glyphs n.glyphs in
-      let us = union (bounds o) (bounds n) ∷ [] in
-      let Q = All (Edges P) in
-      pick_cases Q (equal o n) [] (pick (fills_alike o.draw n.draw) ds (pick (runs_alike_clipped o n) gs us)) (λ _. all_none (Edges P))
-      (λ _. pick_cases Q (fills_alike o.draw n.draw) ds (pick (runs_alike_clipped o n) gs us) (λ _. symmetric_edges (bounds o) (bounds n) f.box g.box)
-      (λ _. pick_cases Q (runs_alike_clipped o n) gs us (λ _. glyphs_edges (glyph_bounds o) (glyph_bounds n) o.glyphs n.glyphs f.glyphs g.glyphs) (λ _. (union_edges P (bounds o) (bounds n) f.box g.box, tt))))
+  unfolding changed_bounds
+  changed_edges o n = case_edges (change o n) o n
 
   pub dirty_edges : (os ns : List Command) → All Bounded os → All Bounded ns → All (Edges P) (diff_dirty os ns)
   unfolding diff_dirty All

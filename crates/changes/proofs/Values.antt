@@ -1,5 +1,5 @@
 -- What changed is a function of values: of commands that match others, the changed boxes differ in the signs of zeros alone, place by place. Assumes nothing.
-use mathlib.Core.Path.{◌≡◌}
+use mathlib.Core.Path.{◌≡◌, subst}
 use mathlib.Core.Bool.{true}
 use mathlib.Core.List.{List, [], ◌∷◌, map}
 use lib.Dec.{T}
@@ -19,12 +19,13 @@ use Rattle.commands.specs.Sizes.{size_of}
 use Rattle.commands.proofs.Values.{Floats}
 use Rattle.operand_equality.specs.Operands.{same_bits, same_glyph, equal_glyph}
 use Rattle.operand_equality.proofs.Compared.{per_glyph, glyphs_told}
-use Rattle.equality.specs.Drawings.{equal, fills_alike, runs_alike_clipped}
+use Rattle.equality.specs.Drawings.{equal}
 use Rattle.equality.proofs.Values.{Good, equal_bounds, equal_glyph_bounds}
 use Rattle.equality.proofs.Compared.{equal_parts, equal_same, fills_same, runs_same}
-use Rattle.differences.specs.Differences.{rect_symmetric_difference}
 use Rattle.differences.proofs.Values.{symmetric_difference_same}
-use Rattle.changes.specs.Changes.{changed_at, changed_glyphs, changed_bounds, diff_dirty}
+use Rattle.changes.specs.declared.Change.{Change}
+use Rattle.changes.specs.declared.Change.TheVariants.{Same, Fills, Runs, Other}
+use Rattle.changes.specs.Changes.{changed_at, changed_glyphs, change, rects_of, changed_bounds, diff_dirty}
 
 -- equal commands, run sizes by bits, whose floats are f64 and no NaN
 pub record Matched (c d : Command) : Type 0 where
@@ -71,27 +72,25 @@ module _ (f f' m m' : Glyph → Rect) (p : SameBy f f') (q : SameBy m m') where
 
 -- ---- two commands
 module _ (o o' n n' : Command) (p : Matched o o') (q : Matched n n') where
-  pub changed_bounds_same : SameBoxes (changed_bounds o n) (changed_bounds o' n')
-  unfolding changed_bounds
-  changed_bounds_same =
-      let a = matched_bounds o o' p in
-      let b = matched_bounds n n' q in
+  -- one case of both
+  change_same : change o n ≡ change o' n'
+  unfolding change
+  change_same =
       let e = holds (equal o o') p.equals in
       let f = holds (equal n n') q.equals in
-      let ds = rect_symmetric_difference (bounds o) (bounds n) in
-      let ds' = rect_symmetric_difference (bounds o') (bounds n') in
-      let gs = changed_glyphs (glyph_bounds o) (glyph_bounds n) o.glyphs n.glyphs in
-      let gs' = changed_glyphs (glyph_bounds o') (glyph_bounds n') o'.glyphs n'.glyphs in
-      let us = union (bounds o) (bounds n) ∷ [] in
-      let us' = union (bounds o') (bounds n') ∷ [] in
-      let rs = pick (runs_alike_clipped o n) gs us in
-      let rs' = pick (runs_alike_clipped o' n') gs' us' in
-      place_pick SameBox (equal o n) (equal o' n') [] (pick (fills_alike o.draw n.draw) ds rs) [] (pick (fills_alike o'.draw n'.draw) ds' rs') (equal_same o o' n n' e f) (place_none SameBox)
-      (place_pick SameBox (fills_alike o.draw n.draw) (fills_alike o'.draw n'.draw) ds rs ds' rs' (fills_same o o' n n' e f) (symmetric_difference_same (bounds o) (bounds o') (bounds n) (bounds n') a b)
-      (place_pick SameBox (runs_alike_clipped o n) (runs_alike_clipped o' n') gs us gs' us' (runs_same o o' n n' e f (holds _ p.sizes) (holds _ q.sizes))
-      (changed_glyphs_same (glyph_bounds o) (glyph_bounds o') (glyph_bounds n) (glyph_bounds n') (equal_glyph_bounds o o' p.floats p.others p.equals) (equal_glyph_bounds n n' q.floats q.others q.equals)
-      o.glyphs o'.glyphs n.glyphs n'.glyphs (matched_glyphs o o' p) (matched_glyphs n n' q))
-      (place_one SameBox (union (bounds o) (bounds n)) (union (bounds o') (bounds n')) (union_same (bounds o) (bounds o') (bounds n) (bounds n') a b))))
+      λ i. pick (equal_same o o' n n' e f i) Same (pick (fills_same o o' n n' e f i) Fills (pick (runs_same o o' n n' e f (holds _ p.sizes) (holds _ q.sizes) i) Runs Other))
+
+  case_same : (c : Change) → SameBoxes (rects_of c o n) (rects_of c o' n')
+  case_same Same = place_none SameBox
+  case_same Fills = symmetric_difference_same (bounds o) (bounds o') (bounds n) (bounds n') (matched_bounds o o' p) (matched_bounds n n' q)
+  case_same Runs =
+      changed_glyphs_same (glyph_bounds o) (glyph_bounds o') (glyph_bounds n) (glyph_bounds n') (equal_glyph_bounds o o' p.floats p.others p.equals) (equal_glyph_bounds n n' q.floats q.others q.equals)
+      o.glyphs o'.glyphs n.glyphs n'.glyphs (matched_glyphs o o' p) (matched_glyphs n n' q)
+  case_same Other = place_one SameBox (union (bounds o) (bounds n)) (union (bounds o') (bounds n')) (union_same (bounds o) (bounds o') (bounds n) (bounds n') (matched_bounds o o' p) (matched_bounds n n' q))
+
+  pub changed_bounds_same : SameBoxes (changed_bounds o n) (changed_bounds o' n')
+  unfolding changed_bounds
+  changed_bounds_same = subst (λ c. SameBoxes (changed_bounds o n) (rects_of c o' n')) change_same (case_same (change o n))
 
 -- ---- lists
 pub diff_dirty_same : (os os' ns ns' : List Command) → ByPlace Matched os os' → ByPlace Matched ns ns' → SameBoxes (diff_dirty os ns) (diff_dirty os' ns')

@@ -20,7 +20,8 @@ use Rattle.operand_equality.specs.Operands.{same_glyph}
 use Rattle.equality.specs.Drawings.{equal, fills_alike, runs_alike_clipped}
 use Rattle.differences.specs.Differences.{rect_symmetric_difference}
 use Rattle.differences.proofs.Pixels.{difference_cuts}
-use Rattle.changes.specs.Changes.{changed_glyphs, changed_bounds, diff_dirty}
+use Rattle.changes.specs.declared.Change.TheVariants.{Same, Fills, Runs, Other}
+use Rattle.changes.specs.Changes.{change, rects_of, changed_bounds, diff_dirty}
 use Rattle.changes.proofs.Edges.{Bounded}
 use Rattle.changes.proofs.Glyphs.{OldClear, NewClear, GlyphsAlike, glyphs_alike}
 use Rattle.index_words.specs.Painting.{paint_all}
@@ -69,11 +70,11 @@ module _ {w h : ℕ} {C : Type 0} {M : Command → Type 0} {paint : Command → 
   module _ (pl : px.p < 2 ^ 53) (ql : px.q < 2 ^ 53) where
     -- D4
     pub commands_alike : (o n : Command) → M o → M n → Sound o → Sound n → All (Unmet px) (changed_bounds o n) → (k : C) → paint o px k ≡ paint n px k
-    unfolding changed_bounds All
+    unfolding change changed_bounds All
     commands_alike o n mo mn so sn u k = go (equal o n) (fills_alike o.draw n.draw) (runs_alike_clipped o n) refl refl refl u
       where
         go : (a b c : Bool) → equal o n ≡ a → fills_alike o.draw n.draw ≡ b → runs_alike_clipped o n ≡ c
-            → All (Unmet px) (pick a [] (pick b (rect_symmetric_difference (bounds o) (bounds n)) (pick c (changed_glyphs (glyph_bounds o) (glyph_bounds n) o.glyphs n.glyphs) (union (bounds o) (bounds n) ∷ []))))
+            → All (Unmet px) (rects_of (pick a Same (pick b Fills (pick c Runs Other))) o n)
             → paint o px k ≡ paint n px k
         go true b c e f g v = R.equals o n mo mn e px k
         go false true c e f g v = ⊎_elim

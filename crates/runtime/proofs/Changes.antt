@@ -9,11 +9,13 @@ use lib.Ieee.{Float}
 use Rattle.lists.proofs.Picks.{le_or_lt}
 use Rattle.geometry.specs.declared.Rect.{Rect}
 use Rattle.commands.specs.Bounds.{Command, bounds}
-use Rattle.changes.specs.Changes.{changed_bounds, diff_dirty}
+use Rattle.changes.specs.declared.Change.{Change}
+use Rattle.changes.specs.Changes.{rects_of, changed_bounds, diff_dirty}
 use Rattle.stored_lists.specs.Stored.{Stored, command_in, commands_in}
 use Rattle.stored_lists.proofs.Places.{commands_end, commands_next, boxes_beside}
 use Rattle.rect_words.specs.Words.{box_at, boxes_to}
 use Rattle.rect_words.proofs.Lists.{boxes_last}
+use Rattle.runtime.specs.Placed.{Tells}
 
 -- ---- the boxes of a remainder
 pub boxes_end : (ibs : List Float) (p i : ℕ) → i ≤ 0 → boxes_to (drop (4 * p) ibs) i ≡ []
@@ -74,13 +76,16 @@ module _ (s : List ℕ) (bs : List Float) (ns is : List ℕ) where
         let g : new ≡ new - 0 = omega arith in
         λ t. diff_dirty (commands_in s bs ns is 0 (e t)) (commands_in s bs ns is (f t) (g t))
 
-    pub changed_next : (k : ℕ) → k < old → k < new → changed_from k ≡ changed_bounds (command_in s bs ns is k) (command_in s bs ns is (old + k)) ++ changed_from (k + 1)
+    changed_next : (k : ℕ) → k < old → k < new → changed_from k ≡ changed_bounds (command_in s bs ns is k) (command_in s bs ns is (old + k)) ++ changed_from (k + 1)
     changed_next k h l =
         let e : old - k - 1 ≡ old - (k + 1) = omega arith in
         let f : old + k + 1 ≡ old + (k + 1) = omega arith in
         let g : new - k - 1 ≡ new - (k + 1) = omega arith in
         diff_next k (old - k) (old + k) (new - k) (omega arith) (λ z. omega arith)
         ∙ (λ t. changed_bounds (command_in s bs ns is k) (command_in s bs ns is (old + k)) ++ diff_dirty (commands_in s bs ns is (k + 1) (e t)) (commands_in s bs ns is (f t) (g t)))
+
+    pub changed_told : (k : ℕ) → k < old → k < new → {x : Change} → Tells x (command_in s bs ns is k) (command_in s bs ns is (old + k)) → changed_from k ≡ rects_of x (command_in s bs ns is k) (command_in s bs ns is (old + k)) ++ changed_from (k + 1)
+    changed_told k h l w = changed_next k h l ∙ ap (λ m. m ++ changed_from (k + 1)) (sym w.rects)
 
     pub changed_rest : (ibs : List Float) → Stored (old + new) s bs ns is ibs → (k m : ℕ) → k ≡ m → m ≡ min old new → changed_from k ≡ boxes_to (drop (4 * m) ibs) (old - m) ++ boxes_to (drop (4 * (old + m)) ibs) (new - m)
     changed_rest ibs w k m e f = ap changed_from e ∙ diff_tails ibs (old + new) w m (old - m) (old + m) (new - m) (omega arith) (omega arith) (⊎_elim (λ (h : old ≤ new). inl (omega arith)) (λ (h : new < old). inr (omega arith)) (le_or_lt old new))

@@ -1,5 +1,6 @@
 -- Laws of the definitions in specs/, for the crates above.
+pub mod Cases
 pub mod Changes
 pub mod InPlace
-pub mod Pairs
+pub mod Placed
 pub mod Repeats

@@ -1,39 +1,38 @@
 -- Commands of the same bytes are equal, as far as their clips are. Assumes nothing.
 use mathlib.Core.Path.{◌≡◌, refl, sym, ap, ◌∙◌}
-use mathlib.Core.Bool.{true, ◌&&◌}
-use mathlib.Core.List.{List, [], ◌++◌}
+use mathlib.Core.Bool.{Bool, true, false, true≢false}
+use mathlib.Core.List.{List, []}
 use Prim.Native.Nat.{ℕ, zero, suc, ◌+◌, ◌*◌, ◌≤◌, ◌<◌}
 use native.Mathlib.Omega.{arith}
 use lib.Dec.{eqb}
 use lib.ListN.{length, get_or}
 use lib.Ieee.{Float}
 use borrow.Author.Tests.{eqb-true}
-use Rattle.std.proofs.lemmas.Bool.{and_parts, and_from}
-use Rattle.lists.proofs.Picks.{pick_true, pick_cases}
+use Rattle.std.proofs.lemmas.Bool.{and_from}
+use Rattle.lists.proofs.Picks.{pick_cases}
 use Rattle.little_endian.specs.Words.{u16_at}
 use Rattle.little_endian.specs.Same.{SameBytes}
 use Rattle.geometry.specs.declared.Rect.{Rect}
 use Rattle.commands.specs.declared.DrawCommand.{DrawCommand}
+use Rattle.commands.specs.declared.DrawCommand.TheVariants.{FillPath, StrokePath, GlyphRun, Scene}
 use Rattle.commands.specs.Bounds.{Command, glyph_count}
 use Rattle.operand_equality.specs.Operands.{equal_glyphs, same_clips}
 use Rattle.operand_equality.proofs.Selves.{equal_glyph_self}
-use Rattle.equality.specs.Drawings.{same_drawing, equal}
+use Rattle.equality.specs.Drawings.{same_drawing, same_fill, fills_alike, equal}
 use Rattle.equality.proofs.Selves.{SizeFinite, drawing_self}
-use Rattle.clips.specs.Chains.{Rooted}
 use Rattle.clips.proofs.Chaining.{chain_none}
 use Rattle.strip_format.specs.Format.{length_of, command_at, glyph_at, glyphs_from}
 use Rattle.strip_format.proofs.Commands.{command_cases}
 use Rattle.strip_format.proofs.Alike.{glyphs_twice}
-use Rattle.strip_format.proofs.Lengths.{length_pos, length_run}
+use Rattle.strip_format.proofs.Lengths.{length_run}
 use Rattle.strip_format.proofs.Numbers.{single_finite, rect_numbers}
 use Rattle.strip.specs.Reading.{command_of}
 use Rattle.strip_laws.proofs.Alike.{command_twice}
 use Rattle.strip_laws.proofs.Numbers.{draw_numbers}
-use Rattle.changes.specs.Changes.{changed_bounds}
-use Rattle.display_list.specs.Lists.{offset_at, clip_number_at}
-use Rattle.stored_lists.specs.Stored.{Stored, command_in}
-use Rattle.runtime.specs.Placed.{Standing, whole_length, AlikeClips}
-use Rattle.runtime.proofs.Changes.{changed_from, changed_next}
+use Rattle.display_list.specs.Lists.{clip_number_at}
+use Rattle.stored_lists.specs.Stored.{command_in}
+use Rattle.runtime.specs.Placed.{whole_length, AlikeClips}
+use Rattle.runtime.proofs.Cases.{drawn, equal_parts}
 
 -- ---- a command with its glyphs is as long as both
 module _ (s : List ℕ) (at : ℕ) where
@@ -76,41 +75,47 @@ module _ (s : List ℕ) where
   glyphs_self zero at = refl
   glyphs_self (suc n) at = and_from _ _ (equal_glyph_self (glyph_at s at) (single_finite s (at + 5)) (single_finite s (at + 9)) (rect_numbers s (at + 13))) (glyphs_self n (at + 45))
 
+  pub same_drawn : (p q : ℕ) → command_of s p [] ≡ command_of s q [] → same_drawing (command_at s p) (command_at s q) ≡ true
+  same_drawn p q e = ap (λ (x : Command). same_drawing (command_at s p) x.draw) (sym e) ∙ drawing_self (command_at s p) (draw_numbers s p) (size_finite p)
+
   pub same_equal : (p q : ℕ) (l m : List Rect) → command_of s p [] ≡ command_of s q [] → same_clips l m ≡ true → equal (command_of s p l) (command_of s q m) ≡ true
   unfolding equal
   same_equal p q l m e f =
       let c = command_of s p [] in
-      let d : same_drawing c.draw (command_at s q) ≡ true = ap (λ (x : Command). same_drawing c.draw x.draw) (sym e) ∙ drawing_self (command_at s p) (draw_numbers s p) (size_finite p) in
       let g : equal_glyphs c.glyphs (command_of s q []).glyphs ≡ true = ap (λ (x : Command). equal_glyphs c.glyphs x.glyphs) (sym e) ∙ glyphs_self (glyph_count (command_at s p)) (p + 103) in
-      and_from _ _ (and_from _ _ d g) f
+      and_from _ _ (and_from _ _ (same_drawn p q e) g) f
 
--- ---- what equal commands tell
-equal_none : (c d : Command) (l : List Rect) → equal c d ≡ true → changed_bounds c d ++ l ≡ l
-unfolding changed_bounds
-equal_none c d l e = ap (λ (x : List Rect). x ++ l) (pick_true _ _ _ e)
+-- ---- fills alike are drawn alike
+fill_counts : (c d : DrawCommand) → fills_alike c d ≡ true → (same_drawing c d ≡ true) × (glyph_count c ≡ 0) × (glyph_count d ≡ 0)
+unfolding same_drawing fills_alike same_fill
+fill_counts (FillPath path b t brush) (FillPath path' b' t' brush') e = (e, refl, refl)
+fill_counts (FillPath path b t brush) (StrokePath path' b' t' stroke' brush') e = absurd (true≢false (sym e))
+fill_counts (FillPath path b t brush) (GlyphRun font' size' t' brush' b' n') e = absurd (true≢false (sym e))
+fill_counts (FillPath path b t brush) (Scene content' generation' target' t' b') e = absurd (true≢false (sym e))
+fill_counts (StrokePath path b t stroke brush) d e = absurd (true≢false (sym e))
+fill_counts (GlyphRun font size t brush b n) d e = absurd (true≢false (sym e))
+fill_counts (Scene content generation target t b) d e = absurd (true≢false (sym e))
 
-equal_clips : (c d : Command) → equal c d ≡ true → same_clips c.clips d.clips ≡ true
-unfolding equal
-equal_clips c d e =
-    let t = same_drawing c.draw d.draw && equal_glyphs c.glyphs d.glyphs in
-    (and_parts t (same_clips c.clips d.clips) e).1
+module _ (s : List ℕ) (p q : ℕ) (l m : List Rect) where
+  fills_drawn : fills_alike (command_at s p) (command_at s q) ≡ true → drawn (command_of s p l) (command_of s q m) ≡ true
+  unfolding glyphs_from equal_glyphs
+  fills_drawn e =
+      let f = fill_counts (command_at s p) (command_at s q) e in
+      and_from _ _ f.0 (λ i. equal_glyphs (glyphs_from s (p + 103) (f.1 i)) (glyphs_from s (q + 103) (f.2 i)))
 
+  pub undrawn : drawn (command_of s p l) (command_of s q m) ≡ false → fills_alike (command_at s p) (command_at s q) ≡ false
+  undrawn f = go (fills_alike (command_at s p) (command_at s q)) refl
+    where
+      go : (t : Bool) → fills_alike (command_at s p) (command_at s q) ≡ t → t ≡ false
+      go true e = absurd (true≢false (sym (fills_drawn e) ∙ f))
+      go false e = refl
+
+-- ---- two commands of a list
 module _ (s : List ℕ) (bs : List Float) (ns is : List ℕ) where
-  pub changed_same : (old new k : ℕ) → k < old → k < new → equal (command_in s bs ns is k) (command_in s bs ns is (old + k)) ≡ true → changed_from s bs ns is old new k ≡ changed_from s bs ns is old new (k + 1)
-  changed_same old new k h l e = changed_next s bs ns is old new k h l ∙ equal_none (command_in s bs ns is k) (command_in s bs ns is (old + k)) (changed_from s bs ns is old new (k + 1)) e
-
   pub clips_of : (p q : ℕ) → equal (command_in s bs ns is p) (command_in s bs ns is q) ≡ true → AlikeClips bs ns (clip_number_at is p) (clip_number_at is q)
-  clips_of p q e = equal_clips (command_in s bs ns is p) (command_in s bs ns is q) e
+  clips_of p q e = (equal_parts (command_in s bs ns is p) (command_in s bs ns is q) e).1
 
 -- before the first command no clip is known
 pub no_clips_alike : (bs : List Float) (ns : List ℕ) → AlikeClips bs ns 0 0
 unfolding same_clips
 no_clips_alike bs ns = λ i. same_clips (chain_none bs ns i) (chain_none bs ns i)
-
--- ---- two places of a list
-module _ (n : ℕ) (s : List ℕ) (bs : List Float) (ns is : List ℕ) (ibs : List Float) (w : Stored n s bs ns is ibs) where
-  pub standing : (i : ℕ) → i < n → Standing s is i
-  standing i h = (omega (arith, w.items), omega (arith, (w.whole i h).fits, length_pos (get_or s (offset_at is i) 0)))
-
-  pub rooted : (i j : ℕ) → i < n → j < n → Rooted bs ns (clip_number_at is i) (clip_number_at is j)
-  rooted i j h k = record { used = w.used; chained = w.clips.chained; one = w.lower i h; other = w.lower j k }

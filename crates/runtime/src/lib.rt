@@ -3,26 +3,25 @@
 // one another (`Rooted`), is asked of callers: the slices are as they were lent, and any five make a `ListSpace`.
 #![tactic(auto)]
 
-ghost use Rattle.std.specs.Prelude.{◌≡◌, true, ◌&&◌, [], ◌∷◌, ◌+◌, ◌*◌, ◌^◌, ◌≤◌, ◌<◌, length, drop};
-ghost use Rattle.geometry.specs.Boxes.{union};
+ghost use Rattle.std.specs.Prelude.{◌≡◌, true, [], ◌+◌, ◌*◌, ◌^◌, ◌≤◌, ◌<◌, length, drop};
 ghost use Rattle.commands.specs.Bounds.{glyph_count};
 ghost use Rattle.operand_equality.specs.Operands.{same_clips};
 ghost use Rattle.clips.specs.Chains.{chain, Rooted};
-ghost use Rattle.equality.specs.Drawings as Drawings;
 ghost use Rattle.differences.specs.Differences.{rect_symmetric_difference};
 ghost use Rattle.display_list.specs.Lists.{offset_at, clip_number_at};
+ghost use Rattle.strip_format.specs.Format.{command_at};
 ghost use Rattle.strip_format.specs.Limits as Limits;
 ghost use Rattle.strip.specs.Reading.{command_of};
-ghost use Rattle.changes.specs.Changes.{changed_glyphs, changed_bounds, diff_dirty};
+ghost use Rattle.changes.specs.Changes.{rects_of, diff_dirty};
 ghost use Rattle.stored_lists.specs.Stored.{Stored, command_in, commands_in};
 ghost use Rattle.rect_list.specs.Rects.{AddedTo, Listed};
-ghost use Rattle.glyph_changes.specs.Runs.{most_boxes, windowed, glyphs_of};
+ghost use Rattle.glyph_changes.specs.Runs.{most_boxes};
 ghost use Rattle.runtime.specs.Placed as Placed;
-ghost use Rattle.runtime.specs.Placed.{Both, placed_at, stands_for, Standing, whole_length, Pair, AlikeClips, SameRun, RunPair};
+ghost use Rattle.runtime.specs.Placed.{Both, whole_length, AlikeClips, SameRun, Tells};
 ghost use Rattle.runtime.specs.Work.{work_of};
 ghost use Rattle.rect_words.specs.Words.{box_at, boxes_to};
 
-use commands::DrawCommand;
+use changes::Change;
 use geometry::Rect;
 use glyph_changes::Run;
 use rect_list::RectList;
@@ -60,21 +59,14 @@ pub struct ListSpace<'a> {
     pub item_boxes: &'a [f64],
 }
 
-// A command of the list, decoded: its operands, its glyphs with its transform and clip number, and its box.
-#[derive(Clone, Copy)]
-struct PlacedCommand {
-    command: DrawCommand,
-    run: Run,
-    bounds: Rect,
-}
-
-fn glyph_count(command: DrawCommand) -> u32
-    ensures { result ≡ glyph_count command }
+// How many glyphs the command at an offset has: none where it is no RUN.
+fn glyph_count_at(s: &[u8], at: usize) -> u32
+    ensures { result ≡ glyph_count (command_at s.now at) }
 {
-    match command {
-        DrawCommand::GlyphRun { glyphs, .. } => glyphs,
-        _ => 0,
+    if !command_bounds::stands(s, at, Kind::Run) {
+        return 0;
     }
+    u32::from(strip_format::glyph_count_at(s, at))
 }
 
 // Whether two commands differ in an operand, and the first is no RUN: then what changed is the union of their boxes, and neither need be
@@ -153,156 +145,17 @@ impl ListSpace<'_> {
         rect_words::rect_from(self.item_boxes, 4 * i)
     }
 
-    // The command at a place of the list.
-    #[tactic(auto, unfolding(crate::specs::Placed::placed_at))]
-    fn placed_at(self, i: usize) -> PlacedCommand
-        requires { (2 * i + 2 ≤ length self.items.now) × (4 * i + 4 ≤ length self.item_boxes.now) × (offset_at self.items.now i ≤ length self.bytes.now) }
-        ensures { result ≡ placed_at self.entry.bytes.now self.entry.items.now self.entry.item_boxes.now i }
+    // The glyphs of the command at a place.
+    fn run_at(self, i: usize) -> Run
+        requires { (2 * i + 2 ≤ length self.items.now) × (offset_at self.items.now i ≤ length self.bytes.now) }
+        ensures { result ≡ Placed.run_at self.entry.bytes.now self.entry.items.now i }
     {
         let at = self.offset_at(i);
-        let command = strip_format::command_at(self.bytes, at);
-        PlacedCommand {
-            command,
-            run: Run {
-                glyphs: at + layout::RUN_GLYPHS,
-                count: glyph_count(command),
-                transform: command.transform(),
-                clip: self.clip_number_at(i),
-            },
-            bounds: self.box_at(i),
-        }
-    }
-
-    // Whether two commands are equal. Clips, which take the longest walk, are compared where all else is equal.
-    #[tactic(auto, unfolding(equality::specs::Drawings::equal))]
-    fn equal(self, old: PlacedCommand, new: PlacedCommand) -> bool
-        requires { Pair self.bytes.now self.boxes.now self.below.now old new }
-        ensures { result
-            ≡ Drawings.equal (stands_for self.entry.bytes.now self.entry.boxes.now self.entry.below.now old)
-            (stands_for self.entry.bytes.now self.entry.boxes.now self.entry.below.now new) }
-    {
-        equality::same_drawing(old.command, new.command)
-            && glyph_changes::equal_glyphs(self.bytes, old.run, new.run)
-            && clips::same_clips(self.boxes, self.below, old.run.clip, new.run.clip)
-    }
-
-    // Whether both are runs alike in font, size, affine, brush and clips.
-    fn runs_alike(self, one: PlacedCommand, other: PlacedCommand) -> bool
-        requires { Rooted self.boxes.now self.below.now one.run.clip other.run.clip }
-        ensures { result
-            ≡ (Drawings.runs_alike one.command other.command
-            && same_clips (chain self.entry.boxes.now self.entry.below.now one.run.clip) (chain self.entry.boxes.now self.entry.below.now other.run.clip)) }
-    {
-        equality::runs_alike(one.command, other.command)
-            && clips::same_clips(self.boxes, self.below, one.run.clip, other.run.clip)
-    }
-
-    // Appends the boxes of what changed from a command to another: nothing where they are equal, the difference of
-    // the boxes of fills alike, the glyphs of runs alike, and else the union of both boxes.
-    fn changed_placed(self, old: PlacedCommand, new: PlacedCommand, rects: &mut RectList)
-        requires { Pair self.bytes.now self.boxes.now self.below.now old new × (rects.old.count + most_boxes < 2 ^ 63) }
-        ensures { AddedTo most_boxes rects.old
-            (changed_bounds (stands_for self.entry.bytes.now self.entry.boxes.now self.entry.below.now old)
-            (stands_for self.entry.bytes.now self.entry.boxes.now self.entry.below.now new))
-            rects.new }
-    {
-        if self.equal(old, new) {
-            return;
-        }
-        if equality::fills_alike(old.command, new.command) {
-            rect_symmetric_difference(old.bounds, new.bounds, rects);
-        } else if self.runs_alike(old, new) {
-            glyph_changes::changed_glyph_bounds(self.bytes, self.boxes, old.run, new.run, rects);
-        } else {
-            rects.push(old.bounds.union(new.bounds));
-        }
-    }
-
-    // The same once both are decoded, whatever they are.
-    fn changed_decoded(self, i: usize, j: usize, rects: &mut RectList)
-        requires { Both i j self.bytes.now self.boxes.now self.below.now self.items.now self.item_boxes.now × (rects.old.count + most_boxes < 2 ^ 63) }
-        ensures { AddedTo most_boxes rects.old
-            (changed_bounds (command_in self.entry.bytes.now self.entry.boxes.now self.entry.below.now self.entry.items.now i)
-            (command_in self.entry.bytes.now self.entry.boxes.now self.entry.below.now self.entry.items.now j))
-            rects.new }
-    {
-        let old = self.placed_at(i);
-        let new = self.placed_at(j);
-        self.changed_placed(old, new, rects);
-    }
-
-    // Appends the union of the boxes at two places.
-    fn append_union(self, i: usize, j: usize, rects: &mut RectList)
-        requires { (4 * i + 4 ≤ length self.item_boxes.now) × (4 * j + 4 ≤ length self.item_boxes.now) × (rects.old.count < 2 ^ 63) }
-        ensures { AddedTo 1 rects.old (union (box_at self.entry.item_boxes.now i) (box_at self.entry.item_boxes.now j) ∷ []) rects.new }
-    {
-        rects.push(self.box_at(i).union(self.box_at(j)));
-    }
-
-    // Appends the boxes of what changed in the glyphs of a RUN that stands at both places: its operands are read once.
-    fn changed_run(self, i: usize, j: usize, rects: &mut RectList)
-        requires { RunPair self.bytes.now self.boxes.now self.items.now i j × (rects.old.count + most_boxes < 2 ^ 63) }
-        ensures { AddedTo most_boxes rects.old
-            (changed_glyphs (windowed self.entry.boxes.now (Placed.run_at self.entry.bytes.now self.entry.items.now i))
-            (windowed self.entry.boxes.now (Placed.run_at self.entry.bytes.now self.entry.items.now j))
-            (glyphs_of self.entry.bytes.now (Placed.run_at self.entry.bytes.now self.entry.items.now i))
-            (glyphs_of self.entry.bytes.now (Placed.run_at self.entry.bytes.now self.entry.items.now j)))
-            rects.new }
-    {
-        let at = self.offset_at(i);
-        let other = self.offset_at(j);
-        let transform = command_bounds::transform_at(self.bytes, at);
-        let count = u32::from(strip_format::glyph_count_at(self.bytes, at));
-        let run = Run {
+        Run {
             glyphs: at + layout::RUN_GLYPHS,
-            count,
-            transform,
+            count: glyph_count_at(self.bytes, at),
+            transform: command_bounds::transform_at(self.bytes, at),
             clip: self.clip_number_at(i),
-        };
-        let other_run = Run {
-            glyphs: other + layout::RUN_GLYPHS,
-            count,
-            transform,
-            clip: self.clip_number_at(j),
-        };
-        glyph_changes::changed_glyph_bounds(self.bytes, self.boxes, run, other_run, rects);
-    }
-
-    // Appends the boxes of what changed from the command at place i to the one at place j. Most that changed differ in an operand or
-    // are RUNs of which only glyphs changed: those are compared where they stand, and the others decoded.
-    pub fn changed_bounds(self, i: usize, j: usize, rects: &mut RectList)
-        requires { Both i j self.bytes.now self.boxes.now self.below.now self.items.now self.item_boxes.now × (rects.old.count + most_boxes < 2 ^ 63) }
-        ensures { AddedTo most_boxes rects.old
-            (changed_bounds (command_in self.entry.bytes.now self.entry.boxes.now self.entry.below.now self.entry.items.now i)
-            (command_in self.entry.bytes.now self.entry.boxes.now self.entry.below.now self.entry.items.now j))
-            rects.new }
-    {
-        let at = self.offset_at(i);
-        let other = self.offset_at(j);
-        if apart(self.bytes, at, other) {
-            self.append_union(i, j, rects);
-        } else if same_run(self.bytes, at, other)
-            && clips::same_clips(
-                self.boxes,
-                self.below,
-                self.clip_number_at(i),
-                self.clip_number_at(j),
-            )
-        {
-            self.changed_run(i, j, rects);
-        } else {
-            self.changed_decoded(i, j, rects);
-        }
-    }
-
-    // Appends the boxes of the commands from a place on.
-    fn append_bounds(self, first: usize, count: usize, rects: &mut RectList)
-        requires { (4 * (first + count) ≤ length self.item_boxes.now) × (rects.old.count + count < 2 ^ 63) }
-        ensures { AddedTo count rects.old (boxes_to (drop (4 * first) self.entry.item_boxes.now) count) rects.new }
-    {
-        let boxes = &self.item_boxes[4 * first..4 * (first + count)];
-        for edges in boxes.as_chunks::<4>().0 {
-            rects.push(Rect::from(*edges));
         }
     }
 
@@ -315,17 +168,95 @@ impl ListSpace<'_> {
         numbers == known || clips::same_clips(self.boxes, self.below, numbers.0, numbers.1)
     }
 
-    // True only where the commands at places i and j are equal.
-    fn same_placed(self, i: usize, j: usize, known: (u64, u64)) -> bool
-        requires { Standing self.bytes.now self.items.now i × Standing self.bytes.now self.items.now j
-            × Rooted self.boxes.now self.below.now (clip_number_at self.items.now i) (clip_number_at self.items.now j)
-            × AlikeClips self.boxes.now self.below.now known.0 known.1 }
-        ensures { result ≡ true
-            → Drawings.equal (command_in self.entry.bytes.now self.entry.boxes.now self.entry.below.now self.entry.items.now i)
-            (command_in self.entry.bytes.now self.entry.boxes.now self.entry.below.now self.entry.items.now j) ≡ true }
+    // How the command at place i became the one at place j, by their decoded operands, glyphs and clips. FILLs alike are drawn alike, so of what is
+    // not only RUNs can be alike. Clips, which take the longest walk, are compared last, and once.
+    fn change_decoded(self, i: usize, j: usize) -> Change
+        requires { Both i j self.bytes.now self.boxes.now self.below.now self.items.now self.item_boxes.now }
+        ensures { Tells result (command_in self.entry.bytes.now self.entry.boxes.now self.entry.below.now self.entry.items.now i)
+            (command_in self.entry.bytes.now self.entry.boxes.now self.entry.below.now self.entry.items.now j) }
     {
-        unchanged(self.bytes, self.offset_at(i), self.offset_at(j))
-            && self.clips_alike((self.clip_number_at(i), self.clip_number_at(j)), known)
+        let old = strip_format::command_at(self.bytes, self.offset_at(i));
+        let new = strip_format::command_at(self.bytes, self.offset_at(j));
+        let clip = self.clip_number_at(i);
+        let other_clip = self.clip_number_at(j);
+        if equality::same_drawing(old, new)
+            && glyph_changes::equal_glyphs(self.bytes, self.run_at(i), self.run_at(j))
+        {
+            if clips::same_clips(self.boxes, self.below, clip, other_clip) {
+                return Change::Same;
+            }
+            if equality::fills_alike(old, new) {
+                return Change::Fills;
+            }
+            return Change::Other;
+        }
+        if equality::runs_alike(old, new)
+            && clips::same_clips(self.boxes, self.below, clip, other_clip)
+        {
+            return Change::Runs;
+        }
+        Change::Other
+    }
+
+    // The same over bytes, where clips up to two numbers are known to be alike: most commands have the bytes of those before them, most that changed
+    // differ in an operand or are RUNs of which only glyphs changed, and none of these is decoded. Whether glyphs changed is not asked: equal ones
+    // list nothing.
+    fn change(self, i: usize, j: usize, known: (u64, u64)) -> Change
+        requires { Both i j self.bytes.now self.boxes.now self.below.now self.items.now self.item_boxes.now
+            × AlikeClips self.boxes.now self.below.now known.0 known.1 }
+        ensures { Tells result (command_in self.entry.bytes.now self.entry.boxes.now self.entry.below.now self.entry.items.now i)
+            (command_in self.entry.bytes.now self.entry.boxes.now self.entry.below.now self.entry.items.now j) }
+    {
+        let at = self.offset_at(i);
+        let other = self.offset_at(j);
+        let numbers = (self.clip_number_at(i), self.clip_number_at(j));
+        if unchanged(self.bytes, at, other) {
+            if self.clips_alike(numbers, known) {
+                return Change::Same;
+            }
+            if command_bounds::stands(self.bytes, at, Kind::Fill) {
+                return Change::Fills;
+            }
+            return Change::Other;
+        }
+        if apart(self.bytes, at, other) {
+            return Change::Other;
+        }
+        if same_run(self.bytes, at, other) && self.clips_alike(numbers, known) {
+            return Change::Runs;
+        }
+        self.change_decoded(i, j)
+    }
+
+    // Appends the rectangles of a case: those of what changed from the command at place i to the one at place j.
+    fn append_change(self, change: Change, i: usize, j: usize, rects: &mut RectList)
+        requires { Both i j self.bytes.now self.boxes.now self.below.now self.items.now self.item_boxes.now × (rects.old.count + most_boxes < 2 ^ 63) }
+        ensures { AddedTo most_boxes rects.old
+            (rects_of change (command_in self.entry.bytes.now self.entry.boxes.now self.entry.below.now self.entry.items.now i)
+            (command_in self.entry.bytes.now self.entry.boxes.now self.entry.below.now self.entry.items.now j))
+            rects.new }
+    {
+        match change {
+            Change::Same => {}
+            Change::Fills => rect_symmetric_difference(self.box_at(i), self.box_at(j), rects),
+            Change::Runs => {
+                let old = self.run_at(i);
+                let new = self.run_at(j);
+                glyph_changes::changed_glyph_bounds(self.bytes, self.boxes, old, new, rects);
+            }
+            Change::Other => rects.push(self.box_at(i).union(self.box_at(j))),
+        }
+    }
+
+    // Appends the boxes of the commands from a place on.
+    fn append_bounds(self, first: usize, count: usize, rects: &mut RectList)
+        requires { (4 * (first + count) ≤ length self.item_boxes.now) × (rects.old.count + count < 2 ^ 63) }
+        ensures { AddedTo count rects.old (boxes_to (drop (4 * first) self.entry.item_boxes.now) count) rects.new }
+    {
+        let boxes = &self.item_boxes[4 * first..4 * (first + count)];
+        for edges in boxes.as_chunks::<4>().0 {
+            rects.push(Rect::from(*edges));
+        }
     }
 
     // Lists the boxes of what changed from a display list to another, and answers how many they are. The old list is the
@@ -346,10 +277,9 @@ impl ListSpace<'_> {
         let mut known = (0, 0);
         for i in 0..common {
             let j = old + i;
-            if self.same_placed(i, j, known) {
-                known = (self.clip_number_at(i), self.clip_number_at(j));
-            } else {
-                self.changed_bounds(i, j, &mut list);
+            match self.change(i, j, known) {
+                Change::Same => known = (self.clip_number_at(i), self.clip_number_at(j)),
+                change => self.append_change(change, i, j, &mut list),
             }
         }
         self.append_bounds(common, old - common, &mut list);
