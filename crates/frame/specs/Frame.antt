@@ -1,6 +1,6 @@
 -- Reading a whole input: numbers 1 and 2 of the header, then each strip from where the last one ended, then 8. "Checked" in the table's order, old
 -- strip first; lent space is judged behind all of this.
-use Rattle.std.specs.Prelude.{List, ℕ, ltb, length, Result, Ok, Err}
+use Rattle.std.specs.Prelude.{List, [], ℕ, ltb, length, Result, Ok, Err}
 use Rattle.lists.specs.Pick.{pick}
 use Rattle.refusals.specs.declared.Fault.TheVariants.{Size, CutOff, TrailingByte}
 use Rattle.refusals.specs.declared.Refusal.{Refusal}

@@ -1,0 +1,1 @@
+use Rattle.recording.proofs.record_strips.Goals as goal
