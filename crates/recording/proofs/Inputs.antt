@@ -13,7 +13,7 @@ use Rattle.lists.proofs.Picks.{pick_cases}
 use Rattle.clips.proofs.Chaining.{no_clips}
 use Rattle.strip.specs.declared.Cursor.{Cursor}
 use Rattle.strip.specs.Steps.{start_at}
-use Rattle.strip.specs.Reading.{read_strip, commands_of}
+use Rattle.strip.specs.Reading.{read_strip}
 use Rattle.strip_laws.specs.Limits.{Within, WhereRead}
 use Rattle.strip_laws.proofs.Limits.{strip_within}
 use Rattle.frame.specs.declared.Strips.{Strips}
@@ -52,7 +52,7 @@ room_less : {x : Space} {c d m n : ℕ} → c ≤ d → m ≤ n → Room d n x �
 room_less p q r = record { boxes = omega (arith, r.boxes); below = omega (arith, r.below); items = omega (arith, r.items); item_boxes = omega (arith, r.item_boxes) }
 
 -- the counts of a strip that was read are small
-read_small : (s : List ℕ) (at : ℕ) (t : Cursor) → Ok t ≡ read_strip s at → (t.clips ≤ 4096) × (t.commands ≤ 4096)
+pub read_small : (s : List ℕ) (at : ℕ) (t : Cursor) → Ok t ≡ read_strip s at → (t.clips ≤ 4096) × (t.commands ≤ 4096)
 read_small s at t e = let w : WhereRead Within (Ok t) = subst (WhereRead Within) (sym e) (strip_within s at) in (w.clips, w.commands)
 
 -- ---- a strip that was read, and what its end comes to
@@ -94,7 +94,6 @@ pub record OldHeld (entry : Entry) (s : List ℕ) (z : Space) (old : Cursor) : T
 
 pub record OldRecorded (entry : Entry) (s : List ℕ) (x z : Space) (old : Cursor) : Type 0 where
   pub read : old_of entry s ≡ Ok old
-  pub small : (old.clips ≤ 4096) × (old.commands ≤ 4096)
   pub lengths : SameLengths x z
   pub lists : Room old.clips old.commands z → OldHeld entry s z old
 
@@ -102,7 +101,6 @@ pub record OldRecorded (entry : Entry) (s : List ℕ) (x z : Space) (old : Curso
 pub none_recorded : (s : List ℕ) (x : Space) (old : Cursor) → old ≡ start_at header_length → OldRecorded First s x x old
 none_recorded s x old e = subst (OldRecorded First s x x) (sym e) (record {
   read = refl;
-  small = (omega arith, omega arith);
   lengths = record { boxes = refl; below = refl; items = refl; item_boxes = refl };
   lists = λ r. record { held = holds_none s x; listed = list_none s x.boxes x.below x.items 0 };
 })
@@ -111,7 +109,6 @@ none_recorded s x old e = subst (OldRecorded First s x x) (sym e) (record {
 pub old_recorded : (s : List ℕ) (x z : Space) (old : Cursor) → Ok old ≡ read_strip s header_length → SameLengths x z → Records s header_length 0 0 x z (Ok old) → OldRecorded Next s x z old
 old_recorded s x z old a l h = record {
   read = sym a;
-  small = read_small s header_length old a;
   lengths = l;
   lists = λ r.
       let k = h (holds_none s x) (room_less (omega arith) (omega arith) (room_before l r)) in
