@@ -13,7 +13,9 @@ use Rattle.strip.specs.Reading.{commands_of}
 use Rattle.screen.specs.declared.Screen.{Screen}
 use Rattle.frame.specs.declared.Strips.{Strips}
 use Rattle.strip.specs.declared.Cursor.{Cursor}
-use Rattle.frame.specs.Frame.{header_length, header_of, first_of, both_of}
+use Rattle.frame.specs.declared.Entry.{Entry}
+use Rattle.frame.specs.declared.Entry.TheVariants.{First, Next}
+use Rattle.frame.specs.Frame.{header_of, strips_of, old_commands}
 
 -- changed rectangles, scheduled regions, index words, and "commands emitted are the new strip's drawing commands"
 pub record Draft : Type 0 where
@@ -46,11 +48,8 @@ pub data Outcome : Type 0 where
 abbrev pub screen_rect : Screen → Rect
 screen_rect screen = record { x0 = whole 0; y0 = whole 0; x1 = whole screen.width; y1 = whole screen.height }
 
-abbrev pub items_of : Cursor → Items
-items_of end = record { commands = end.commands; glyphs = end.glyphs; clips = end.clips }
-
-abbrev pub items_of_both : Cursor → Cursor → Items
-items_of_both old new = record { commands = old.commands + new.commands; glyphs = old.glyphs + new.glyphs; clips = old.clips + new.clips }
+abbrev pub items_of : Cursor → Cursor → Items
+items_of old new = record { commands = old.commands + new.commands; glyphs = old.glyphs + new.glyphs; clips = old.clips + new.clips }
 
 -- the changed rectangles, from the old strip's commands to the new one's
 abbrev pub rects_since : Entry → Screen → List Command → List Command → List Rect
@@ -59,7 +58,7 @@ rects_since Next screen old new = diff_dirty old new
 
 abbrev pub on_strips : Entry → Screen → List ℕ → Result Strips Refusal → Outcome
 on_strips entry screen s (Ok both) =
-    drafted (items_of_both both.old both.new)
+    drafted (items_of both.old both.new)
     (draft screen (rects_since entry screen (old_commands entry s) (commands_of s both.old.at)) (commands_of s both.old.at))
 on_strips entry screen s (Err why) = refuses why
 
