@@ -12,11 +12,10 @@ use Rattle.refusals.specs.Table.{refused}
 use Rattle.lists.specs.Pick.{pick}
 use Rattle.scheduler.specs.Schedule.{words_of_regions, regions_to}
 use Rattle.scheduler.proofs.Reading.{regions_back}
-use Rattle.frame_drafts.specs.declared.Entry.{Entry}
-use Rattle.frame_drafts.specs.declared.Entry.TheVariants.{First, Next}
-use Rattle.frame_drafts.specs.Scratch.{outcome}
+use Rattle.frame.specs.declared.Entry.{Entry}
+use Rattle.frame.specs.declared.Entry.TheVariants.{First, Next}
 use Rattle.plans.specs.declared.Plan.{Plan}
-use Rattle.plans.specs.Drafts.{Draft, Outcome, refuses, drafted, first_outcome, next_outcome}
+use Rattle.plans.specs.Drafts.{Draft, Outcome, refuses, drafted, outcome, first_outcome, next_outcome}
 use Rattle.plans.specs.Space.{Slices, Lent, lent_of}
 use Rattle.plans.specs.Answers.{items_fit, draft_fits, counts, answer_of, accepted, counts_of, region_words_of, index_words_of, published}
 use Rattle.planner.specs.Calls.{Promise}
@@ -57,5 +56,5 @@ module _ (input : List ℕ) (before after : Slices) (r : Result Plan Refusal) wh
   as_next = refl
 
   pub called_as : (entry : Entry) → Promise (outcome entry input) before after r → CalledAs entry input before after r
-  called_as First p = λ header s e. called header none s before after r (first_outcome input) (ap first_outcome e) p.answer.plan p.scheduled p.index
-  called_as Next p = λ header old s e. called header (some old) s before after r (next_outcome input) (ap next_outcome e) p.answer.plan p.scheduled p.index
+  called_as First p = λ header s e. called header none s before after r (first_outcome input) (ap (outcome First) e) p.answer.plan p.scheduled p.index
+  called_as Next p = λ header old s e. called header (some old) s before after r (next_outcome input) (ap (outcome Next) e) p.answer.plan p.scheduled p.index

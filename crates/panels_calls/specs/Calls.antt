@@ -3,8 +3,8 @@ use Rattle.refusals.specs.declared.Refusal.{Refusal}
 use Rattle.std.specs.Prelude.{◌≡◌, true, List, ◌++◌, ℕ, Result}
 use Rattle.std.proofs.Math.Option.{Option, none, some}
 use Rattle.scheduler.specs.Schedule.{regions_to}
-use Rattle.frame_drafts.specs.declared.Entry.{Entry}
-use Rattle.frame_drafts.specs.declared.Entry.TheVariants.{First, Next}
+use Rattle.frame.specs.declared.Entry.{Entry}
+use Rattle.frame.specs.declared.Entry.TheVariants.{First, Next}
 use Rattle.plans.specs.declared.Plan.{Plan}
 use Rattle.plans.specs.Space.{Slices}
 use Rattle.plans.specs.Answers.{accepted, counts_of}
