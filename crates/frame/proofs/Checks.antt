@@ -1,7 +1,7 @@
 -- The header and the strips behind it, by the checks in their order. Assumes nothing.
 use Rattle.std.specs.Prelude.{◌≡◌, true, false, List, ℕ, ◌≤◌, ◌<◌, length, ltb, Result, Ok, Err}
 use mathlib.Core.Path.{sym, refl, ap, subst, ◌∙◌}
-use borrow.Author.Tests.{le-ltb, lt-ltb}
+use borrow.Author.Tests.{le-ltb, lt-ltb, ltb-false}
 use Rattle.refusals.specs.declared.Fault.TheVariants.{Size, CutOff, TrailingByte}
 use Rattle.refusals.specs.declared.Refusal.{Refusal}
 use Rattle.refusals.specs.Table.{refused}
@@ -41,16 +41,16 @@ strips_refused entry s why e = ap (then_strips s) (sym e)
 
 -- ---- strips that were read, and nothing behind them
 abbrev Told : Entry → List ℕ → Result Strips Refusal → Type 0
-Told entry s (Ok both) = (old_of entry s ≡ Ok both.old) × (read_strip s both.old.at ≡ Ok both.new)
+Told entry s (Ok both) = (old_of entry s ≡ Ok both.old) × (read_strip s both.old.at ≡ Ok both.new) × (length s ≤ both.new.at)
 Told entry s (Err why) = Unit {0}
 
--- each strip was read from where the one before it ended
-pub strips_told : (entry : Entry) (s : List ℕ) {r : Result Strips Refusal} → r ≡ strips_of entry s → {both : Strips} → r ≡ Ok both → (old_of entry s ≡ Ok both.old) × (read_strip s both.old.at ≡ Ok both.new)
+-- each strip was read from where the one before it ended, and the last one to the last byte
+pub strips_told : (entry : Entry) (s : List ℕ) {r : Result Strips Refusal} → r ≡ strips_of entry s → {both : Strips} → r ≡ Ok both → (old_of entry s ≡ Ok both.old) × (read_strip s both.old.at ≡ Ok both.new) × (length s ≤ both.new.at)
 unfolding strips_of ended
 strips_told entry s a q = subst (Told entry s) (sym a ∙ q) (go (old_of entry s) refl)
   where
     behind : (old : Cursor) → old_of entry s ≡ Ok old → (x : Result Cursor Refusal) → read_strip s old.at ≡ x → Told entry s (then_new s old x)
-    behind old e (Ok new) f = pick_cases (λ (x : Result Cursor Refusal). Told entry s (with_old old x)) (ltb new.at (length s)) (refused TrailingByte new.at) (Ok new) (λ n. tt) (λ n. (e, f))
+    behind old e (Ok new) f = pick_cases (λ (x : Result Cursor Refusal). Told entry s (with_old old x)) (ltb new.at (length s)) (refused TrailingByte new.at) (Ok new) (λ n. tt) (λ n. (e, f, ltb-false new.at (length s) n))
     behind old e (Err why) f = tt
 
     go : (x : Result Cursor Refusal) → old_of entry s ≡ x → Told entry s (then_strips s x)

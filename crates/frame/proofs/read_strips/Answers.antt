@@ -14,8 +14,8 @@ returns-in_err-old-in-Next c =
 pub returns : goal.returns
 returns c =
     let e : old_of c.args.entry c.args.s.now ≡ Ok c.match-entry.old =
-        elim c.match-entry.branch [
-          in-First w ↦ rw w.in-First.is (ap Ok (sym (w.old-is ∙ w.start-old.ensures)))
-        | in-Next+in_ok-old-in-Next w ↦ rw w.in-Next.is (sym w.in_ok-old-in-Next.ensures ∙ ap Ok (sym w.old-is))
-        ] in
+    elim c.match-entry.branch [
+      | in-First w ↦ rw w.in-First.is (ap Ok (sym (w.old-is ∙ w.start-old.ensures)))
+      | in-Next+in_ok-old-in-Next w ↦ rw w.in-Next.is (sym w.in_ok-old-in-Next.ensures ∙ ap Ok (sym w.old-is))
+    ] in
     c.new_strip.ensures ∙ strips_next _ _ _ e
