@@ -13,12 +13,14 @@ use Rattle.changes.specs.Changes.{changed_bounds}
 use Rattle.changes.proofs.Examples.{box, run, glyph, signed_size}
 use Rattle.rect_list.specs.Rects as Rects
 use Rattle.strip.specs.declared.Cursor.{Cursor}
+use Rattle.frame.specs.declared.Entry.TheVariants.{Next}
+use Rattle.frame.specs.Frame.{strips}
 use Rattle.plans.specs.Drafts.{next_outcome}
 use Rattle.plans.specs.Space.{Lent}
 use Rattle.plans.specs.Answers.{rect_words_of}
 use Rattle.plans.proofs.Examples.{header, zero8, one8, two8, content, worked}
 use Rattle.agreement.specs.Agree.{agreeing}
-use Rattle.agreement.specs.Plans.{NextAgree, SamePlan}
+use Rattle.agreement.specs.Plans.{InputsAgree, SamePlan}
 use Rattle.agreement.proofs.Plans.{same_by_value}
 
 -- ---- a square of 2 by 2 in the corner of the screen, which the new strip has no more. The zeros along x are 0, or -0.
@@ -35,9 +37,9 @@ old = record { at = 110; depth = 0; clips = 0; commands = 1; glyphs = 0; due = 0
 abbrev new : Cursor
 new = record { at = 111; depth = 0; clips = 0; commands = 0; glyphs = 0; due = 0; run = 0; united = record { x0 = zero_of false; y0 = zero_of false; x1 = zero_of false; y1 = zero_of false } }
 
-pub gone_agree : (z : Lent) → NextAgree z (gone zero8) (gone minus8) old new old new
+pub gone_agree : (z : Lent) → InputsAgree z Next (gone zero8) (gone minus8) (strips old new) (strips old new)
 unfolding worked ByPlace agreeing
-gone_agree z = record { sizes = refl; read = refl; other_read = refl; old_commands = (refl, tt); new_commands = tt; clips = refl }
+gone_agree z = record { sizes = refl; read = refl; other_read = refl; old_agree = (refl, tt); new_agree = tt; clips = refl }
 
 -- the one rectangle begins at 0, or at -0; all else that the two inputs get is the same
 positive_edge : get_or (rect_words_of (next_outcome (gone zero8))) 0 nan ≡ zero_of false
@@ -49,7 +51,7 @@ unfolding worked Rects.words_of_rects
 negative_edge = refl
 
 gone_planned : (z : Lent) → SamePlan z (next_outcome (gone zero8)) (next_outcome (gone minus8))
-gone_planned z = same_by_value.next z (gone zero8) (gone minus8) old new old new (gone_agree z)
+gone_planned z = same_by_value z Next (gone zero8) (gone minus8) (strips old new) (strips old new) (gone_agree z)
 
 -- ---- a run of size 0, or -0, and of two glyphs, of which the second stands at a column
 abbrev sized : ℕ → ℕ → Command

@@ -1,7 +1,7 @@
 -- What agrees is planned alike, at either entry. Assumes nothing.
 use mathlib.Core.Path.{◌≡◌, refl, ap, subst}
 use mathlib.Core.Logic.{inl}
-use mathlib.Core.List.{List, [], ◌∷◌}
+use mathlib.Core.List.{List}
 use Prim.Native.Nat.{ℕ}
 use lib.ListN.{length, drop}
 use lib.Ieee.{Float}
@@ -10,22 +10,23 @@ use Rattle.refusals.specs.declared.Refusal.{Refusal}
 use Rattle.lists.specs.Places.{ByPlace}
 use Rattle.lists.proofs.Places.{place_none, place_one, place_length, place_append, place_self}
 use Rattle.ieee.specs.Values.{Same}
-use Rattle.geometry.proofs.Values.{SameBox, box_self}
-use Rattle.changes.specs.Changes.{diff_dirty}
+use Rattle.geometry.proofs.Values.{SameBox, SameBoxes, box_self}
 use Rattle.changes.proofs.Values.{diff_dirty_same}
 use Rattle.scheduler.specs.Schedule as Schedule
-use Rattle.strip.specs.declared.Cursor.{Cursor}
 use Rattle.strip.specs.Reading.{commands_of}
 use Rattle.screen.specs.declared.Screen.{Screen}
-use Rattle.frame.specs.Frame.{strips, header_of, first_of, both_of}
+use Rattle.frame.specs.declared.Entry.{Entry}
+use Rattle.frame.specs.declared.Entry.TheVariants.{First, Next}
+use Rattle.frame.specs.Frame.{header_of, strips_of, old_commands}
 use Rattle.plans.specs.declared.Plan.{Plan}
-use Rattle.plans.specs.Drafts.{Draft, draft, Items, items_of, items_of_both, Outcome, drafted, screen_rect, on_first, on_both, on_header, first_outcome, next_outcome}
+use Rattle.plans.specs.Drafts.{Draft, draft, Items, items_of, Outcome, drafted, screen_rect, rects_since, on_strips, on_header, outcome}
 use Rattle.plans.specs.Space.{Lent}
 use Rattle.plans.specs.Answers.{items_fit, answer_of, rect_words_of, region_words_of, index_words_of, published}
 use Rattle.plans.proofs.Values.{SameDraft, draft_same, answer_same, rect_words_same}
-use Rattle.agreement.specs.Plans.{FirstAgree, NextAgree, SamePlan, SameByValue}
+use Rattle.agreement.specs.Agree.{AgreeAll}
+use Rattle.agreement.specs.Plans.{SamePlan, SameByValue}
 use Rattle.agreement.proofs.Strips.{strips_matched}
-use Rattle.agreement.proofs.Counts.{first_room, next_room}
+use Rattle.agreement.proofs.Counts.{items_alike}
 
 -- drafts that only the signs of zero edges tell apart, with items that fit alike
 drafts_plan : (z : Lent) (i j : Items) (d e : Draft) → SameDraft d e → items_fit z i ≡ items_fit z j → SamePlan z (drafted i d) (drafted j e)
@@ -45,37 +46,26 @@ module _ (z : Lent) (f g : Screen → Outcome) (same : (screen : Screen) → Sam
   on_headers : (x y : Result Screen Refusal) → x ≡ y → SamePlan z (on_header x f) (on_header y g)
   on_headers x y e = subst (λ y. SamePlan z (on_header x f) (on_header y g)) e (on_header_lem x)
 
--- ---- the two entries
-module _ (z : Lent) (s t : List ℕ) where
-  first_plans : (c d : Cursor) → FirstAgree z s t c d → SamePlan z (first_outcome s) (first_outcome t)
-  unfolding first_outcome
-  first_plans c d a = on_headers z (λ screen. on_first screen s (first_of s)) (λ screen. on_first screen t (first_of t)) (λ screen. rw (a.read, a.other_read) (drafts screen)) (header_of s) (header_of t) a.sizes
-    where
-      drafts : (screen : Screen) → SamePlan z (on_first screen s (Ok c)) (on_first screen t (Ok d))
-      drafts screen =
-          let r = screen_rect screen ∷ [] in
-          drafts_plan z (items_of c) (items_of d) (draft screen r (commands_of s 12)) (draft screen r (commands_of t 12))
-          (draft_same screen r r (commands_of s 12) (commands_of t 12) (place_one SameBox (screen_rect screen) (screen_rect screen) (box_self (screen_rect screen))) (strips_matched s t 12 12 a.commands))
-          (first_room z s t c d a)
-
-  next_plans : (old new old' new' : Cursor) → NextAgree z s t old new old' new' → SamePlan z (next_outcome s) (next_outcome t)
-  unfolding next_outcome
-  next_plans old new old' new' a = on_headers z (λ screen. on_both screen s (both_of s)) (λ screen. on_both screen t (both_of t)) (λ screen. rw (a.read, a.other_read) (drafts screen)) (header_of s) (header_of t) a.sizes
-    where
-      drafts : (screen : Screen) → SamePlan z (on_both screen s (Ok (strips old new))) (on_both screen t (Ok (strips old' new')))
-      drafts screen =
-          let os = commands_of s 12 in
-          let os' = commands_of t 12 in
-          let ns = commands_of s old.at in
-          let ns' = commands_of t old'.at in
-          let p = strips_matched s t 12 12 a.old_commands in
-          let q = strips_matched s t old.at old'.at a.new_commands in
-          drafts_plan z (items_of_both old new) (items_of_both old' new') (draft screen (diff_dirty os ns) ns) (draft screen (diff_dirty os' ns') ns')
-          (draft_same screen (diff_dirty os ns) (diff_dirty os' ns') ns ns' (diff_dirty_same os os' ns ns' p q) q)
-          (next_room z s t old new old' new' a)
+-- ---- inputs that agree
+-- what changed in each is the same boxes, but for the signs of zeros
+rects_same : (entry : Entry) (screen : Screen) (s t : List ℕ) (p q : ℕ) → AgreeAll (old_commands entry s) (old_commands entry t) → AgreeAll (commands_of s p) (commands_of t q) → SameBoxes (rects_since entry screen (old_commands entry s) (commands_of s p)) (rects_since entry screen (old_commands entry t) (commands_of t q))
+rects_same First screen s t p q a b = place_one SameBox (screen_rect screen) (screen_rect screen) (box_self (screen_rect screen))
+rects_same Next screen s t p q a b = diff_dirty_same (commands_of s 12) (commands_of t 12) (commands_of s p) (commands_of t q) (strips_matched s t 12 12 a) (strips_matched s t p q b)
 
 pub same_by_value : SameByValue
-same_by_value = record { first = first_plans; next = next_plans }
+unfolding outcome
+same_by_value z entry s t x y a =
+    on_headers z (λ screen. on_strips entry screen s (strips_of entry s)) (λ screen. on_strips entry screen t (strips_of entry t)) (λ screen. rw (a.read, a.other_read) (drafts screen)) (header_of s) (header_of t) a.sizes
+  where
+    drafts : (screen : Screen) → SamePlan z (on_strips entry screen s (Ok x)) (on_strips entry screen t (Ok y))
+    drafts screen =
+        let cs = commands_of s x.old.at in
+        let ds = commands_of t y.old.at in
+        let rs = rects_since entry screen (old_commands entry s) cs in
+        let rs' = rects_since entry screen (old_commands entry t) ds in
+        drafts_plan z (items_of x.old x.new) (items_of y.old y.new) (draft screen rs cs) (draft screen rs' ds)
+        (draft_same screen rs rs' cs ds (rects_same entry screen s t x.old.at y.old.at a.old_agree a.new_agree) (strips_matched s t x.old.at y.old.at a.new_agree))
+        (items_alike z entry s t x y a)
 
 -- ---- so every word of the output is the same over what stood there before, whether the calls are accepted or not, but for the sign of a zero edge
 module _ (z : Lent) (x y : Outcome) (p : SamePlan z x y) where

@@ -5,7 +5,7 @@ ghost use Rattle.std.specs.Prelude.{◌≡◌, IfOk};
 ghost use Rattle.planner.specs.Calls.{Promise};
 ghost use Rattle.plans.specs.Space.{lent_of};
 ghost use Rattle.entry_calls.specs.Lending.{at_most, lent_for, slices_of};
-ghost use Rattle.frame_drafts.specs.Scratch.{outcome};
+ghost use Rattle.plans.specs.Drafts.{outcome};
 
 pub use planner::Entry;
 use plans::Plan;

@@ -1,14 +1,18 @@
 -- The header and the strips behind it, by the checks in their order. Assumes nothing.
-use Rattle.std.specs.Prelude.{◌≡◌, true, false, List, ℕ, ◌≤◌, ◌<◌, length, Ok}
-use mathlib.Core.Path.{sym, ap, ◌∙◌}
-use borrow.Author.Tests.{le-ltb, lt-ltb}
+use Rattle.std.specs.Prelude.{◌≡◌, true, false, List, ℕ, ◌≤◌, ◌<◌, length, ltb, Result, Ok, Err}
+use mathlib.Core.Path.{sym, refl, ap, subst, ◌∙◌}
+use borrow.Author.Tests.{le-ltb, lt-ltb, ltb-false}
 use Rattle.refusals.specs.declared.Fault.TheVariants.{Size, CutOff, TrailingByte}
+use Rattle.refusals.specs.declared.Refusal.{Refusal}
 use Rattle.refusals.specs.Table.{refused}
 use Rattle.strip.specs.declared.Cursor.{Cursor}
 use Rattle.strip.specs.Reading.{read_strip}
 use Rattle.screen.specs.declared.Screen.{Screen}
 use Rattle.screen.specs.Sizes.{fits}
-use Rattle.frame.specs.Frame.{sizes_at, header_of, ended, then_new, then_strips, both_of}
+use Rattle.frame.specs.declared.Strips.{Strips}
+use Rattle.lists.proofs.Picks.{pick_cases}
+use Rattle.frame.specs.Frame.{sizes_at, header_of, ended, then_new, with_old, then_strips, old_of, strips_of}
+use Rattle.frame.specs.declared.Entry.{Entry}
 
 module _ (s : List ℕ) where
   -- ---- the header
@@ -26,9 +30,32 @@ module _ (s : List ℕ) where
     header_good e = let all-fit = ap fits (sym read) ∙ e in rw (le-ltb (length s) 12 long, all-fit) (ap Ok read)
 
 -- ---- the new strip behind the old one
-pub both_next : (s : List ℕ) (old : Cursor) → read_strip s 12 ≡ Ok old → then_new s old (read_strip s old.at) ≡ both_of s
-unfolding both_of
-both_next s old e = ap (then_strips s) (sym e)
+pub strips_next : (entry : Entry) (s : List ℕ) (old : Cursor) → old_of entry s ≡ Ok old → then_new s old (read_strip s old.at) ≡ strips_of entry s
+unfolding strips_of
+strips_next entry s old e = ap (then_strips s) (sym e)
+
+-- what the old strip is refused for
+pub strips_refused : (entry : Entry) (s : List ℕ) (why : Refusal) → old_of entry s ≡ Err why → Err why ≡ strips_of entry s
+unfolding strips_of
+strips_refused entry s why e = ap (then_strips s) (sym e)
+
+-- ---- strips that were read, and nothing behind them
+abbrev Told : Entry → List ℕ → Result Strips Refusal → Type 0
+Told entry s (Ok both) = (old_of entry s ≡ Ok both.old) × (read_strip s both.old.at ≡ Ok both.new) × (length s ≤ both.new.at)
+Told entry s (Err why) = Unit {0}
+
+-- each strip was read from where the one before it ended, and the last one to the last byte
+pub strips_told : (entry : Entry) (s : List ℕ) {r : Result Strips Refusal} → r ≡ strips_of entry s → {both : Strips} → r ≡ Ok both → (old_of entry s ≡ Ok both.old) × (read_strip s both.old.at ≡ Ok both.new) × (length s ≤ both.new.at)
+unfolding strips_of ended
+strips_told entry s a q = subst (Told entry s) (sym a ∙ q) (go (old_of entry s) refl)
+  where
+    behind : (old : Cursor) → old_of entry s ≡ Ok old → (x : Result Cursor Refusal) → read_strip s old.at ≡ x → Told entry s (then_new s old x)
+    behind old e (Ok new) f = pick_cases (λ (x : Result Cursor Refusal). Told entry s (with_old old x)) (ltb new.at (length s)) (refused TrailingByte new.at) (Ok new) (λ n. tt) (λ n. (e, f, ltb-false new.at (length s) n))
+    behind old e (Err why) f = tt
+
+    go : (x : Result Cursor Refusal) → old_of entry s ≡ x → Told entry s (then_strips s x)
+    go (Ok old) e = behind old e (read_strip s old.at) refl
+    go (Err why) e = tt
 
 -- ---- what follows the last strip
 pub followed : (s : List ℕ) (last : Cursor) → last.at < length s → refused TrailingByte last.at ≡ ended s last

@@ -1,16 +1,20 @@
 -- Reading a whole input: numbers 1 and 2 of the header, then each strip from where the last one ended, then 8. "Checked" in the table's order, old
 -- strip first; lent space is judged behind all of this.
-use Rattle.std.specs.Prelude.{List, ℕ, ltb, length, Result, Ok, Err}
+use Rattle.std.specs.Prelude.{List, [], ℕ, ltb, length, Result, Ok, Err}
 use Rattle.lists.specs.Pick.{pick}
 use Rattle.refusals.specs.declared.Fault.TheVariants.{Size, CutOff, TrailingByte}
 use Rattle.refusals.specs.declared.Refusal.{Refusal}
 use Rattle.refusals.specs.Table.{refused}
 use Rattle.little_endian.specs.Words.{u32_at}
 use Rattle.strip.specs.declared.Cursor.{Cursor}
-use Rattle.strip.specs.Reading.{read_strip}
+use Rattle.strip.specs.Steps.{start_at}
+use Rattle.strip.specs.Reading.{read_strip, commands_of}
+use Rattle.commands.specs.Bounds.{Command}
 use Rattle.screen.specs.declared.Screen.{Screen}
 use Rattle.screen.specs.Sizes.{fits}
 use Rattle.frame.specs.declared.Strips.{Strips}
+use Rattle.frame.specs.declared.Entry.{Entry}
+use Rattle.frame.specs.declared.Entry.TheVariants.{First, Next}
 
 -- ---- "The header is width, height, band height, u32 each."
 abbrev pub header_length : ℕ
@@ -50,10 +54,16 @@ abbrev pub then_strips : List ℕ → Result Cursor Refusal → Result Strips Re
 then_strips s (Ok old) = then_new s old (read_strip s old.at)
 then_strips s (Err why) = Err why
 
--- the two strips of an input whose header is good
-unfoldable pub both_of : List ℕ → Result Strips Refusal
-both_of s = then_strips s (read_strip s header_length)
+-- where the old strip ended; a first frame has none, and its new strip begins behind the header
+abbrev pub old_of : Entry → List ℕ → Result Cursor Refusal
+old_of First s = Ok (start_at header_length)
+old_of Next s = read_strip s header_length
 
--- "A first frame has an entry point of its own: header and one strip, the same checks."
-unfoldable pub first_of : List ℕ → Result Cursor Refusal
-first_of s = then_end s (read_strip s header_length)
+-- the strips of an input whose header is good. "A first frame has an entry point of its own: header and one strip, the same checks."
+unfoldable pub strips_of : Entry → List ℕ → Result Strips Refusal
+strips_of entry s = then_strips s (old_of entry s)
+
+-- the commands of the old strip, of which a first frame has none
+abbrev pub old_commands : Entry → List ℕ → List Command
+old_commands First s = []
+old_commands Next s = commands_of s header_length

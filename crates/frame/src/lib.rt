@@ -12,7 +12,14 @@ use strip::Cursor;
 // How many bytes the header has.
 pub const HEADER_LENGTH: usize = 12;
 
-// Where the old strip ended, and where the new one.
+// Which frame a call plans: a first one, or one after another.
+#[derive(Clone, Copy, Debug, PartialEq, Eq)]
+pub enum Entry {
+    First,
+    Next,
+}
+
+// Where the old strip ended, and where the new one. A first frame's old strip is nothing, ended where it would begin.
 #[derive(Clone, Copy, Debug, PartialEq)]
 pub struct Strips {
     pub old: Cursor,
@@ -53,15 +60,6 @@ pub fn at_end(s: &[u8], last: Cursor) -> Result<Cursor, Refusal>
     Ok(last)
 }
 
-// The strip behind the header, and nothing behind it. `recording` has the same three for strips that are stored: this reading stores
-// nothing and asks for no space, and one function over both would be handed the step as a closure.
-pub fn first_frame(s: &[u8]) -> Result<Cursor, Refusal>
-    ensures { result ≡ Frame.first_of s.now }
-{
-    let new = strip::read_strip(s, HEADER_LENGTH)?;
-    at_end(s, new)
-}
-
 // The new strip, read from where the old one ended, and nothing behind it.
 fn new_strip(s: &[u8], old: Cursor) -> Result<Strips, Refusal>
     ensures { result ≡ Frame.then_new s.now old (read_strip s.now old.at) }
@@ -71,10 +69,14 @@ fn new_strip(s: &[u8], old: Cursor) -> Result<Strips, Refusal>
     Ok(Strips { old, new })
 }
 
-// The two strips behind the header, and nothing behind them.
-pub fn both_strips(s: &[u8]) -> Result<Strips, Refusal>
-    ensures { result ≡ Frame.both_of s.now }
+// The strips behind the header, and nothing behind them. `recording` has the same two for strips that are stored: this reading
+// stores nothing and asks for no space, and one function over both would be handed the step as a closure.
+pub fn read_strips(entry: Entry, s: &[u8]) -> Result<Strips, Refusal>
+    ensures { result ≡ Frame.strips_of entry s.now }
 {
-    let old = strip::read_strip(s, HEADER_LENGTH)?;
+    let old = match entry {
+        Entry::First => Cursor::start(HEADER_LENGTH),
+        Entry::Next => strip::read_strip(s, HEADER_LENGTH)?,
+    };
     new_strip(s, old)
 }

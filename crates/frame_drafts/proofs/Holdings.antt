@@ -1,22 +1,22 @@
 -- What lent space holds of the strips that were read, where their items fit: the counts are small, and the boxes of the new commands stand in a row.
 -- Assumes nothing.
-use Rattle.std.specs.Prelude.{Result, Ok, Err}
-use Rattle.refusals.specs.declared.Fault.TheVariants.{TrailingByte}
+use Rattle.std.specs.Prelude.{Result, Ok}
 use Rattle.refusals.specs.declared.Refusal.{Refusal}
-use Rattle.refusals.specs.Table.{refused}
-use Rattle.std.proofs.Common.{◌≡◌, ℕ, zero, suc, ◌+◌, ◌*◌, ◌/◌, min, true, ◌&&◌, ltb, leb, List, map, length, drop, sym, refl, ap, ◌∙◌, subst, arith, leb-true}
+use Rattle.std.proofs.Common.{◌≡◌, ℕ, zero, suc, ◌+◌, ◌*◌, ◌/◌, min, true, ◌&&◌, leb, List, map, length, drop, sym, refl, ap, ◌∙◌, subst, arith, leb-true}
 use lib.Ieee.{Float}
 use lib.Ieee.Fits.{and_l, and_r}
 use Rattle.lists.proofs.Bools.{holds, is_true}
-use Rattle.lists.proofs.Picks.{pick_cases}
 use Rattle.rect_words.specs.Words.{boxes_to}
 use Rattle.commands.specs.Bounds.{Command, bounds}
 use Rattle.strip.specs.declared.Cursor.{Cursor}
-use Rattle.strip.specs.Reading.{read_strip}
+use Rattle.strip.specs.Steps.{start_at}
 use Rattle.strip_laws.specs.Limits.{Within, WhereRead}
 use Rattle.strip_laws.proofs.Limits.{strip_within}
 use Rattle.frame.specs.declared.Strips.{Strips}
-use Rattle.frame.specs.Frame.{first_of, both_of, with_old, then_end, then_new, then_strips, ended}
+use Rattle.frame.specs.declared.Entry.{Entry}
+use Rattle.frame.specs.declared.Entry.TheVariants.{First, Next}
+use Rattle.frame.specs.Frame.{header_length, old_of, strips_of}
+use Rattle.frame.proofs.Checks.{strips_told}
 use Rattle.stored_lists.specs.Stored.{commands_in, Stored}
 use Rattle.stored_lists.proofs.Places.{boxes_beside}
 use Rattle.recording.specs.Recorded.{Space, SameLengths, Room}
@@ -25,35 +25,17 @@ use Rattle.plans.specs.Answers.{items_fit}
 use Rattle.frame_drafts.specs.Scratch.{lent_scratch}
 
 -- ---- the counts are within the limits
-abbrev FirstWithin : Result Cursor Refusal → Type 0
-FirstWithin (Ok new) = Within new
-FirstWithin (Err why) = Unit {0}
+none_within : Within (start_at header_length)
+none_within = record { depth = omega arith; commands = omega arith; glyphs = omega arith; clips = omega arith }
 
-end_within : (s : List ℕ) (x : Result Cursor Refusal) → WhereRead Within x → FirstWithin (then_end s x)
-unfolding ended
-end_within s (Ok t) w = pick_cases FirstWithin (ltb t.at (length s)) (refused TrailingByte t.at) (Ok t) (λ e. tt) (λ e. w)
-end_within s (Err why) w = tt
+old_within : (entry : Entry) (s : List ℕ) (old : Cursor) → old_of entry s ≡ Ok old → Within old
+old_within First s old e = subst (WhereRead Within) e none_within
+old_within Next s old e = subst (WhereRead Within) e (strip_within s header_length)
 
-pub first_within : (s : List ℕ) (r : Result Cursor Refusal) → r ≡ first_of s → (new : Cursor) → r ≡ Ok new → Within new
-unfolding first_of
-first_within s r a new q = subst FirstWithin (sym a ∙ q) (end_within s (read_strip s 12) (strip_within s 12))
-
-abbrev BothWithin : Result Strips Refusal → Type 0
-BothWithin (Ok both) = Within both.old × Within both.new
-BothWithin (Err why) = Unit {0}
-
-new_within : (s : List ℕ) (old : Cursor) → Within old → (x : Result Cursor Refusal) → WhereRead Within x → BothWithin (then_new s old x)
-unfolding ended
-new_within s old w (Ok t) v = pick_cases (λ (x : Result Cursor Refusal). BothWithin (with_old old x)) (ltb t.at (length s)) (refused TrailingByte t.at) (Ok t) (λ e. tt) (λ e. (w, v))
-new_within s old w (Err why) v = tt
-
-old_within : (s : List ℕ) (x : Result Cursor Refusal) → WhereRead Within x → BothWithin (then_strips s x)
-old_within s (Ok old) w = new_within s old w (read_strip s old.at) (strip_within s old.at)
-old_within s (Err why) w = tt
-
-pub both_within : (s : List ℕ) (r : Result Strips Refusal) → r ≡ both_of s → (both : Strips) → r ≡ Ok both → Within both.old × Within both.new
-unfolding both_of
-both_within s r a both q = subst BothWithin (sym a ∙ q) (old_within s (read_strip s 12) (strip_within s 12))
+pub both_within : (entry : Entry) (s : List ℕ) {r : Result Strips Refusal} → r ≡ strips_of entry s → {both : Strips} → r ≡ Ok both → Within both.old × Within both.new
+both_within entry s a {both} q =
+    let t = strips_told entry s a q in
+    (old_within entry s both.old t.0, subst (WhereRead Within) t.1 (strip_within s both.old.at))
 
 -- ---- items that fit
 -- whatever is lent for the draft

@@ -18,24 +18,24 @@ use Rattle.strip_laws.specs.Limits.{Within}
 use Rattle.screen.specs.declared.Screen.{Screen}
 use Rattle.screen.specs.Sizes.{fits}
 use Rattle.frame.specs.declared.Strips.{Strips}
-use Rattle.frame.specs.Frame.{sizes_at, header_of, first_of, both_of}
+use Rattle.frame.specs.Frame.{sizes_at, header_of, strips_of, old_commands}
 use Rattle.stored_lists.specs.Stored.{commands_in, Stored}
-use Rattle.recording.specs.Recorded.{Space, SameLengths, Room, Holds, Two, RecordsFirst, RecordsBoth}
+use Rattle.recording.specs.Recorded.{Space, SameLengths, Room, Two, RecordsStrips}
 use Rattle.plans.specs.declared.Plan.{Plan}
-use Rattle.plans.specs.Drafts.{Items, Outcome, refuses, drafted, screen_rect, on_first, on_both, first_outcome, next_outcome, items_of_both}
+use Rattle.plans.specs.Drafts.{Items, Outcome, refuses, drafted, screen_rect, items_of, rects_since, on_strips, outcome}
 use Rattle.plans.specs.Space.{Lent}
 use Rattle.plans.specs.Answers.{items_fit, answer_of}
 use Rattle.commands.specs.Bounds.{bounds}
 use Rattle.drafting.proofs.Words.{part_count, part_boxes}
 use Rattle.drafting.specs.Drafted.{draft_in, rooms, judged, WrittenIf, Ready}
-use Rattle.frame_drafts.specs.declared.Entry.{Entry}
-use Rattle.frame_drafts.specs.declared.Entry.TheVariants.{First, Next}
+use Rattle.frame.specs.declared.Entry.{Entry}
+use Rattle.frame.specs.declared.Entry.TheVariants.{First, Next}
 use Rattle.frame_drafts.specs.declared.Changed.{Changed}
-use Rattle.frame_drafts.specs.Scratch.{lent_scratch, on_strips, outcome, Roomy, WrittenFor}
+use Rattle.frame_drafts.specs.Scratch.{lent_scratch, Roomy, WrittenFor}
 use Rattle.frame_drafts.specs.Listing.{Stand}
 use Rattle.frame_drafts.specs.declared.Items.{Items as Counts}
-use Rattle.frame_drafts.specs.Counts.{count_both, counted, counted_both}
-use Rattle.frame_drafts.proofs.Holdings.{first_within, both_within, items_same, items_room, list_length, stored_boxes}
+use Rattle.frame_drafts.specs.Counts.{count_both, counted}
+use Rattle.frame_drafts.proofs.Holdings.{both_within, items_same, items_room, list_length, stored_boxes}
 use Rattle.frame_drafts.proofs.Judgements.{answered, no_items}
 use Rattle.rect_words.specs.Words.{boxes_to}
 
@@ -50,10 +50,10 @@ of_counts c = record { commands = c.commands; glyphs = c.glyphs; clips = c.clips
 abbrev Meets : Lent → Outcome → Result Plan Refusal → List Float → List ℕ → List ℕ → Type 0
 Meets z o p rs gs ws = (p ≡ answer_of z o) × WrittenFor p o rs gs ws
 
--- ---- two strips
-module _ (s : List ℕ) {z y : Space} (glyphs : List ℕ) {r : Result Strips Refusal} (a : r ≡ both_of s) (l : SameLengths z y) (k : RecordsBoth s y r) where
-  pub next_refused : (why : Refusal) → r ≡ Err why → (screen : Screen) (R G W : ℕ) → Err why ≡ answer_of (scratch_for z glyphs R G W) (on_both screen s (both_of s))
-  next_refused why q screen R G W = rw (sym (sym q ∙ a)) refl
+-- ---- the strips, and their items
+module _ (entry : Entry) (s : List ℕ) (screen : Screen) {z y : Space} (glyphs : List ℕ) {r : Result Strips Refusal} (a : r ≡ strips_of entry s) (l : SameLengths z y) (k : RecordsStrips entry s y r) where
+  pub strips_none : (why : Refusal) → r ≡ Err why → (R G W : ℕ) → Err why ≡ answer_of (scratch_for z glyphs R G W) (on_strips entry screen s (strips_of entry s))
+  strips_none why q R G W = rw (sym (sym q ∙ a)) refl
 
   module _ {both : Strips} (q : r ≡ Ok both) where
     abbrev old : Cursor
@@ -62,95 +62,66 @@ module _ (s : List ℕ) {z y : Space} (glyphs : List ℕ) {r : Result Strips Ref
     abbrev new : Cursor
     new = both.new
 
-    next_within : Within old × Within new
-    next_within = both_within s r a both q
+    within : Within old × Within new
+    within = both_within entry s a q
 
     abbrev items : Items
-    items = items_of_both old new
+    items = items_of old new
 
-    module _ {counts : Counts} (are : counts ≡ counted_both both) {t : Bool} (judges : t ≡ items_fit (lent_scratch y.boxes y.below y.items y.item_boxes glyphs 0 0 0) (of_counts counts)) where
+    module _ {counts : Counts} (are : counts ≡ counted both) {t : Bool} (judges : t ≡ items_fit (lent_scratch y.boxes y.below y.items y.item_boxes glyphs 0 0 0) (of_counts counts)) where
       -- no sum of two counts saturates
       same_counts : of_counts counts ≡ items
       same_counts =
-          let o = next_within.0 in
-          let n = next_within.1 in
+          let o = within.0 in
+          let n = within.1 in
           let c : count_both old.commands new.commands ≡ old.commands + new.commands = omega (arith, o.commands, n.commands) in
           let g : count_both old.glyphs new.glyphs ≡ old.glyphs + new.glyphs = omega (arith, o.glyphs, n.glyphs) in
           let p : count_both old.clips new.clips ≡ old.clips + new.clips = omega (arith, o.clips, n.clips) in
           ap of_counts are ∙ λ i. record { commands = c i; glyphs = g i; clips = p i }
 
-      both_judged : t ≡ items_fit (lent_scratch y.boxes y.below y.items y.item_boxes glyphs 0 0 0) items
-      both_judged = judges ∙ ap (items_fit (lent_scratch y.boxes y.below y.items y.item_boxes glyphs 0 0 0)) same_counts
+      items_judged : t ≡ items_fit (lent_scratch y.boxes y.below y.items y.item_boxes glyphs 0 0 0) items
+      items_judged = judges ∙ ap (items_fit (lent_scratch y.boxes y.below y.items y.item_boxes glyphs 0 0 0)) same_counts
 
-      pub next_over : t ≡ false → (screen : Screen) (R G W : ℕ) → refused NoRoom 0 ≡ answer_of (scratch_for z glyphs R G W) (on_both screen s (both_of s))
-      next_over e screen R G W = rw (sym (sym q ∙ a)) (no_items (scratch_for z glyphs R G W) _ _ (sym (items_same z y glyphs R G W _ l) ∙ sym both_judged ∙ e))
+      pub items_over : t ≡ false → (R G W : ℕ) → refused NoRoom 0 ≡ answer_of (scratch_for z glyphs R G W) (on_strips entry screen s (strips_of entry s))
+      items_over e R G W = rw (sym (sym q ∙ a)) (no_items (scratch_for z glyphs R G W) _ _ (sym (items_same z y glyphs R G W _ l) ∙ sym items_judged ∙ e))
 
       module _ (e : t ≡ true) where
-        both_fit : Room (old.clips + new.clips) (old.commands + new.commands) y
-        both_fit = items_room y glyphs _ (sym both_judged ∙ e)
+        room : Room (old.clips + new.clips) (old.commands + new.commands) y
+        room = items_room y glyphs _ (sym items_judged ∙ e)
 
-        two : Two s old new y
-        two = subst (RecordsBoth s y) q k both_fit
+        two : Two entry s old new y
+        two = subst (RecordsStrips entry s y) q k room
 
-        pub next_stored : Stored (old.commands + new.commands) s y.boxes y.below y.items y.item_boxes × (old.commands ≤ 4096) × (new.commands ≤ 4096)
-        next_stored = (two.held.stored, next_within.0.commands, next_within.1.commands)
+        pub lists_stored : Stored (old.commands + new.commands) s y.boxes y.below y.items y.item_boxes × (old.commands ≤ 4096) × (new.commands ≤ 4096)
+        lists_stored = (two.held.stored, within.0.commands, within.1.commands)
 
-        pub next_stands : {before rs : List Float} {n : ℕ} → Listed before (diff_dirty (commands_in s y.boxes y.below y.items 0 old.commands) (commands_in s y.boxes y.below y.items old.commands new.commands)) rs n
-            → (screen : Screen) → Stand screen (on_both screen s (both_of s)) z glyphs before rs y.items y.item_boxes (record { first = old.commands; commands = new.commands; n = n })
-        next_stands {before} {rs} {n} x screen =
+        -- rectangles are those of the lists where they are those of what is recorded
+        lists_stand : {before rs : List Float} {n : ℕ} → Listed before (rects_since entry screen (commands_in s y.boxes y.below y.items 0 old.commands) (commands_in s y.boxes y.below y.items old.commands new.commands)) rs n
+            → Stand screen (on_strips entry screen s (strips_of entry s)) z glyphs before rs y.items y.item_boxes (record { first = old.commands; commands = new.commands; n = n })
+        lists_stand {before} {rs} {n} x =
             let o = two.old_list in
             let u = two.new_list in
             record {
               items = items;
-              rects = diff_dirty (commands_of s 12) (commands_of s old.at);
+              rects = rects_since entry screen (old_commands entry s) (commands_of s old.at);
               commands = commands_of s old.at;
               is_draft = rw (sym (sym q ∙ a)) refl;
-              fit = sym (items_same z y glyphs 0 0 0 _ l) ∙ sym both_judged ∙ e;
-              listed = subst (λ (d : List Rect). Listed before d rs n) (λ i. diff_dirty (o i) (u i)) x;
+              fit = sym (items_same z y glyphs 0 0 0 _ l) ∙ sym items_judged ∙ e;
+              listed = subst (λ (d : List Rect). Listed before d rs n) (λ i. rects_since entry screen (o i) (u i)) x;
               boxes = stored_boxes s y.boxes y.below y.items y.item_boxes old.commands new.commands two.held.stored (commands_of s old.at) u;
               count = sym (list_length s y.boxes y.below y.items new.commands old.commands) ∙ ap length u;
-              few = next_within.1.commands;
+              few = within.1.commands;
               held = two.held.stored.boxes;
-              span_room = omega (arith, both_fit.items);
+              span_room = omega (arith, room.items);
             }
 
--- ---- one strip
-module _ (s : List ℕ) (screen : Screen) {z y : Space} (glyphs : List ℕ) {r : Result Cursor Refusal} (a : r ≡ first_of s) (l : SameLengths z y) (k : RecordsFirst s y r) where
-  pub first_refused : (why : Refusal) → r ≡ Err why → (R G W : ℕ) → Err why ≡ answer_of (scratch_for z glyphs R G W) (on_first screen s (first_of s))
-  first_refused why q R G W = rw (sym (sym q ∙ a)) refl
+        pub first_stands : entry ≡ First → {before rs : List Float} {n : ℕ} {whole_screen : Rect} → whole_screen ≡ screen_rect screen → Added 1 before 0 (whole_screen ∷ []) rs n
+            → Stand screen (on_strips entry screen s (strips_of entry s)) z glyphs before rs y.items y.item_boxes (record { first = old.commands; commands = new.commands; n = n })
+        first_stands e {before} {rs} {n} is x = lists_stand (rw e (subst (λ (d : Rect). Listed before (d ∷ []) rs n) is (listed 1 before _ rs n x)))
 
-  module _ {new : Cursor} (q : r ≡ Ok new) {counts : Counts} (are : counts ≡ counted new) {t : Bool} (judges : t ≡ items_fit (lent_scratch y.boxes y.below y.items y.item_boxes glyphs 0 0 0) (of_counts counts)) where
-    judged_one : t ≡ items_fit (lent_scratch y.boxes y.below y.items y.item_boxes glyphs 0 0 0) (of_counts (counted new))
-    judged_one = judges ∙ ap (λ (x : Counts). items_fit (lent_scratch y.boxes y.below y.items y.item_boxes glyphs 0 0 0) (of_counts x)) are
-
-    pub first_over : t ≡ false → (R G W : ℕ) → refused NoRoom 0 ≡ answer_of (scratch_for z glyphs R G W) (on_first screen s (first_of s))
-    first_over e R G W = rw (sym (sym q ∙ a)) (no_items (scratch_for z glyphs R G W) _ _ (sym (items_same z y glyphs R G W _ l) ∙ sym judged_one ∙ e))
-
-    module _ (e : t ≡ true) where
-      one_fits : Room new.clips new.commands y
-      one_fits = items_room y glyphs _ (sym judged_one ∙ e)
-
-      one : Holds new.clips new.commands s y × (commands_in s y.boxes y.below y.items 0 new.commands ≡ commands_of s 12)
-      one = subst (RecordsFirst s y) q k one_fits
-
-      stored : Stored (0 + new.commands) s y.boxes y.below y.items y.item_boxes
-      stored = let c : new.commands ≡ 0 + new.commands = omega arith in subst (λ (n : ℕ). Stored n s y.boxes y.below y.items y.item_boxes) c one.0.stored
-
-      pub first_stands : {before rs : List Float} {n : ℕ} {whole_screen : Rect} → whole_screen ≡ screen_rect screen → Added 1 before 0 (whole_screen ∷ []) rs n
-          → Stand screen (on_first screen s (first_of s)) z glyphs before rs y.items y.item_boxes (record { first = 0; commands = new.commands; n = n })
-      first_stands {before} {rs} {n} is x = record {
-        items = record { commands = new.commands; glyphs = new.glyphs; clips = new.clips };
-        rects = screen_rect screen ∷ [];
-        commands = commands_of s 12;
-        is_draft = rw (sym (sym q ∙ a)) refl;
-        fit = sym (items_same z y glyphs 0 0 0 _ l) ∙ sym judged_one ∙ e;
-        listed = subst (λ (d : Rect). Listed before (d ∷ []) rs n) is (listed 1 before _ rs n x);
-        boxes = stored_boxes s y.boxes y.below y.items y.item_boxes 0 new.commands stored (commands_of s 12) one.1;
-        count = sym (list_length s y.boxes y.below y.items new.commands 0) ∙ ap length one.1;
-        few = (first_within s r a new q).commands;
-        held = stored.boxes;
-        span_room = omega (arith, one_fits.items);
-      }
+        pub next_stands : entry ≡ Next → {before rs : List Float} {n : ℕ} → Listed before (diff_dirty (commands_in s y.boxes y.below y.items 0 old.commands) (commands_in s y.boxes y.below y.items old.commands new.commands)) rs n
+            → Stand screen (on_strips entry screen s (strips_of entry s)) z glyphs before rs y.items y.item_boxes (record { first = old.commands; commands = new.commands; n = n })
+        next_stands e x = lists_stand (rw e x)
 
 -- ---- the whole screen
 pub zero_whole : of_bits binary64 0 ≡ whole 0
@@ -214,12 +185,10 @@ module _ (s : List ℕ) (r : Result Screen Refusal) (a : r ≡ header_of s) wher
   header_sizes screen q = subst HeaderFits (sym a ∙ q) (header_fits s)
 
   -- what the strips come to is what the bytes come to
-  pub header_strips : (screen : Screen) → r ≡ Ok screen → (entry : Entry) → on_strips entry screen s ≡ outcome entry s
-  unfolding first_outcome next_outcome
-  header_strips screen q First = rw (sym (sym q ∙ a)) refl
-  header_strips screen q Next = rw (sym (sym q ∙ a)) refl
+  pub header_strips : (screen : Screen) → r ≡ Ok screen → (entry : Entry) → on_strips entry screen s (strips_of entry s) ≡ outcome entry s
+  unfolding outcome
+  header_strips screen q entry = rw (sym (sym q ∙ a)) refl
 
   pub header_none : (z : Lent) (why : Refusal) → r ≡ Err why → (entry : Entry) → Err why ≡ answer_of z (outcome entry s)
-  unfolding first_outcome next_outcome
-  header_none z why q First = rw (sym (sym q ∙ a)) refl
-  header_none z why q Next = rw (sym (sym q ∙ a)) refl
+  unfolding outcome
+  header_none z why q entry = rw (sym (sym q ∙ a)) refl

@@ -1,12 +1,8 @@
 -- The scratch of a call: what it can take, and what a draft leaves there.
 use Rattle.refusals.specs.declared.Refusal.{Refusal}
 use Rattle.std.specs.Prelude.{ℕ, ◌*◌, ◌/◌, ◌≤◌, min, List, length, Float, Result}
-use Rattle.screen.specs.declared.Screen.{Screen}
 use Rattle.plans.specs.declared.Plan.{Plan}
-use Rattle.plans.specs.Drafts.{Outcome, refuses, drafted, on_first, on_both, first_outcome, next_outcome}
-use Rattle.frame.specs.Frame.{first_of, both_of}
-use Rattle.frame_drafts.specs.declared.Entry.{Entry}
-use Rattle.frame_drafts.specs.declared.Entry.TheVariants.{First, Next}
+use Rattle.plans.specs.Drafts.{Outcome, refuses, drafted}
 use Rattle.plans.specs.Space.{Lent}
 use Rattle.drafting.specs.Drafted.{WrittenIf}
 
@@ -21,16 +17,6 @@ lent_scratch bs ns is ibs glyphs rects regions words =
       regions = regions;
       words = words;
     }
-
--- what the strips come to on a screen, for the entry that is called
-abbrev pub on_strips : Entry → Screen → List ℕ → Outcome
-on_strips First screen s = on_first screen s (first_of s)
-on_strips Next screen s = on_both screen s (both_of s)
-
--- what the bytes come to
-abbrev pub outcome : Entry → List ℕ → Outcome
-outcome First s = first_outcome s
-outcome Next s = next_outcome s
 
 -- the space for the draft is as long as is said
 pub record Roomy (rs : List Float) (work gs ws : List ℕ) (rects regions words : ℕ) : Type 0 where

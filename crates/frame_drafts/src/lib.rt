@@ -4,28 +4,20 @@
 
 ghost use Rattle.std.specs.Prelude.{◌≡◌, ℕ, min};
 ghost use Rattle.recording.specs.Recorded.{space};
-ghost use Rattle.frame.specs.Frame.{first_of, both_of};
-ghost use Rattle.plans.specs.Drafts.{screen_rect, on_first, on_both};
+ghost use Rattle.frame.specs.Frame.{strips_of};
+ghost use Rattle.plans.specs.Drafts.{screen_rect, on_strips, outcome};
 ghost use Rattle.plans.specs.Answers.{items_fit, answer_of};
-ghost use Rattle.frame_drafts.specs.Scratch.{lent_scratch, on_strips, outcome, Roomy, WrittenFor};
+ghost use Rattle.frame_drafts.specs.Scratch.{lent_scratch, Roomy, WrittenFor};
 ghost use Rattle.frame_drafts.specs.Listing.{Lists};
-ghost use Rattle.frame_drafts.specs.Counts.{counted, counted_both};
+ghost use Rattle.frame_drafts.specs.Counts.{counted};
 
-use frame::Strips;
+use frame::{Entry, Strips};
 use geometry::Rect;
 use plans::{Plan, Room};
 use rect_list::RectList;
 use refusals::{Fault, Refusal};
 use runtime::ListSpace;
 use screen::Screen;
-use strip::Cursor;
-
-// Which frame a call plans: a first one, or one after another.
-#[derive(Clone, Copy, Debug, PartialEq, Eq)]
-pub enum Entry {
-    First,
-    Next,
-}
 
 // How many items the strips of an input have.
 #[derive(Clone, Copy, Debug, PartialEq, Eq)]
@@ -35,22 +27,9 @@ pub struct Items {
     pub clips: u64,
 }
 
-// What a strip has, by where its reading ended.
-impl From<Cursor> for Items {
-    ghost from_gives = { λ end items. items ≡ counted end };
-
-    fn from(end: Cursor) -> Items {
-        Items {
-            commands: end.commands,
-            glyphs: end.glyphs,
-            clips: end.clips,
-        }
-    }
-}
-
-// What two strips have together. A strip that was read has at most 4,096 commands, 4,096 clips and 16,384 glyphs, so that no sum saturates.
+// What both strips have together. A strip that was read has at most 4,096 commands, 4,096 clips and 16,384 glyphs, so that no sum saturates.
 impl From<Strips> for Items {
-    ghost from_gives = { λ strips items. items ≡ counted_both strips };
+    ghost from_gives = { λ strips items. items ≡ counted strips };
 
     fn from(strips: Strips) -> Items {
         let Strips { old, new } = strips;
@@ -102,68 +81,8 @@ fn screen_rect(screen: Screen) -> Rect
     }
 }
 
-// A first frame: all its commands are new, and its one rectangle is the whole screen. The slices stay slices, here and in
-// the two below, for `draft_frame`'s reason.
-fn list_first(
-    s: &[u8],
-    screen: Screen,
-    boxes: &mut [f64],
-    below: &mut [u64],
-    items: &mut [u64],
-    item_boxes: &mut [f64],
-    glyph_items: &[u64],
-    rects: &mut [f64],
-) -> Result<Changed, Refusal>
-    ensures { Lists screen (on_first screen s.now (first_of s.now)) (space boxes.old below.old items.old item_boxes.old) glyph_items.now rects.old rects.new
-        items.new item_boxes.new result }
-{
-    let new = recording::record_first(s, boxes, below, items, item_boxes)?;
-    let count = Items::from(new);
-    if !items_fit(count, boxes, below, items, item_boxes, glyph_items) {
-        return Err(Fault::NoRoom.at(0));
-    }
-    let mut list = RectList::new(rects);
-    list.push(screen_rect(screen));
-    Ok(Changed {
-        first: 0,
-        commands: new.commands as usize,
-        n: list.count,
-    })
-}
-
-// A frame after another: the new strip's commands stand behind the old one's, and the rectangles are what changed between the two.
-fn list_next(
-    s: &[u8],
-    boxes: &mut [f64],
-    below: &mut [u64],
-    items: &mut [u64],
-    item_boxes: &mut [f64],
-    glyph_items: &[u64],
-    rects: &mut [f64],
-) -> Result<Changed, Refusal>
-    ensures { (screen : Screen)
-        → Lists screen (on_both screen s.now (both_of s.now)) (space boxes.old below.old items.old item_boxes.old) glyph_items.now rects.old rects.new
-        items.new item_boxes.new result }
-{
-    let both = recording::record_both(s, boxes, below, items, item_boxes)?;
-    let count = Items::from(both);
-    if !items_fit(count, boxes, below, items, item_boxes, glyph_items) {
-        return Err(Fault::NoRoom.at(0));
-    }
-    let first = both.old.commands as usize;
-    let commands = both.new.commands as usize;
-    let lists = ListSpace {
-        bytes: s,
-        boxes,
-        below,
-        items,
-        item_boxes,
-    };
-    let n = lists.diff_dirty(first, commands, rects);
-    Ok(Changed { first, commands, n })
-}
-
-// One strip of a first frame, else the last accepted one and the new one.
+// The new strip's commands stand behind the old one's, of which a first frame has none. Its one rectangle is the whole screen, and a later
+// frame's are what changed between the two strips. The slices stay slices, for `draft_frame`'s reason.
 fn list_frame(
     entry: Entry,
     s: &[u8],
@@ -175,22 +94,34 @@ fn list_frame(
     glyph_items: &[u64],
     rects: &mut [f64],
 ) -> Result<Changed, Refusal>
-    ensures { Lists screen (on_strips entry screen s.now) (space boxes.old below.old items.old item_boxes.old) glyph_items.now rects.old rects.new items.new
-        item_boxes.new result }
+    ensures { Lists screen (on_strips entry screen s.now (strips_of entry s.now)) (space boxes.old below.old items.old item_boxes.old) glyph_items.now rects.old
+        rects.new items.new item_boxes.new result }
 {
-    match entry {
-        Entry::First => list_first(
-            s,
-            screen,
-            boxes,
-            below,
-            items,
-            item_boxes,
-            glyph_items,
-            rects,
-        ),
-        Entry::Next => list_next(s, boxes, below, items, item_boxes, glyph_items, rects),
+    let both = recording::record_strips(entry, s, boxes, below, items, item_boxes)?;
+    let count = Items::from(both);
+    if !items_fit(count, boxes, below, items, item_boxes, glyph_items) {
+        return Err(Fault::NoRoom.at(0));
     }
+    let first = both.old.commands as usize;
+    let commands = both.new.commands as usize;
+    let n = match entry {
+        Entry::First => {
+            let mut list = RectList::new(rects);
+            list.push(screen_rect(screen));
+            list.count
+        }
+        Entry::Next => {
+            let lists = ListSpace {
+                bytes: s,
+                boxes,
+                below,
+                items,
+                item_boxes,
+            };
+            lists.diff_dirty(first, commands, rects)
+        }
+    };
+    Ok(Changed { first, commands, n })
 }
 
 // Header and strips, and their draft. The scratch stays slices: a struct of several that are lent anew at once is not covered by the

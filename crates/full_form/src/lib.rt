@@ -34,10 +34,7 @@ impl fmt::Display for Edge {
 
 // What the strips of a call have; nothing where the input is refused.
 fn items_of(entry: Entry, input: &[u8]) -> Option<Items> {
-    match entry {
-        Entry::First => frame::first_frame(input).ok().map(Items::from),
-        Entry::Next => frame::both_strips(input).ok().map(Items::from),
-    }
+    frame::read_strips(entry, input).ok().map(Items::from)
 }
 
 // How many starts the index of an input has: one a row, and the end of the last. Nothing without a header.

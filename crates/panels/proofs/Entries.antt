@@ -5,12 +5,11 @@ use mathlib.Core.List.{List, ◌++◌, map, append_assoc}
 use mathlib.Core.Option.{Option, none, some}
 use Prim.Native.Nat.{ℕ, ◌+◌, ◌≤◌, ◌<◌}
 use native.Mathlib.Omega.{arith}
-use lib.Dec.{ltb}
 use lib.ListN.{length, drop, get_or, length-append, get_or-append}
-use borrow.Author.Tests.{le-ltb, ltb-false}
+use borrow.Author.Tests.{le-ltb}
 use Rattle.refusals.specs.Table.{refusal}
 use Rattle.std.specs.Prelude.{Result, Ok, Err}
-use Rattle.refusals.specs.declared.Fault.TheVariants.{Size, TrailingByte}
+use Rattle.refusals.specs.declared.Fault.TheVariants.{Size}
 use Rattle.refusals.specs.declared.Refusal.{Refusal}
 use Rattle.refusals.specs.Table.{refused}
 use Rattle.lists.proofs.Picks.{pick_cases}
@@ -23,18 +22,21 @@ use Rattle.scheduler.specs.Schedule.{schedule}
 use Rattle.changes.specs.Changes.{diff_dirty}
 use Rattle.strip.specs.declared.Cursor.{Cursor}
 use Rattle.strip.specs.Reading.{read_strip, commands_of}
+use Rattle.strip_laws.specs.Limits.{WhereRead}
 use Rattle.screen.specs.declared.Screen.{Screen}
 use Rattle.screen.specs.Sizes.{fits}
-use Rattle.frame.specs.Frame.{sizes_at, header_of, ended, with_old, then_new, then_end, first_of, both_of}
-use Rattle.frame.proofs.Checks.{both_next}
+use Rattle.frame.specs.declared.Entry.{Entry}
+use Rattle.frame.specs.declared.Strips.{Strips}
+use Rattle.frame.specs.Frame.{sizes_at, header_of, old_of, strips_of, old_commands}
+use Rattle.frame.proofs.Checks.{strips_told}
 use Rattle.plans.specs.declared.Plan.{Plan}
-use Rattle.plans.specs.Drafts.{Outcome, refuses, drafted, on_first, on_both, on_header, first_outcome, next_outcome}
+use Rattle.plans.specs.Drafts.{Outcome, refuses, drafted, rects_since, on_strips, on_header, outcome}
 use Rattle.plans.specs.Space.{Slices, Lent, lent_of}
 use Rattle.plans.specs.Answers.{answer_of, accepted, published, index_words_of}
-use Rattle.panels.specs.Entries.{call_of, drafted_regions, entries, EntriesAgree}
+use Rattle.panels.specs.Entries.{entry_after, strips_after, call_of, drafted_regions, entries, EntriesAgree}
 use Rattle.panels.proofs.Plans.{boxes_since, GoodLast, Call, Plans}
 use Rattle.panels.proofs.Panels.{plans_agree}
-use Rattle.panels.proofs.Strips.{OneStrip, strip_sound, ends_there, as_alone, one_strip, old_read, old_list}
+use Rattle.panels.proofs.Strips.{OneStrip, strip_sound, as_alone, one_strip, old_read, old_list}
 
 module _ (header : List ℕ) (twelve : length header ≡ 12) where
   abbrev screen : Screen
@@ -68,51 +70,52 @@ module _ (header : List ℕ) (twelve : length header ≡ 12) where
   WhereDrafted last s (refuses why) = Unit {0}
   WhereDrafted last s (drafted i d) = Drafted last s (drafted i d)
 
-  first_drafted : (s : List ℕ) → WhereDrafted none s (first_outcome (header ++ s))
-  unfolding first_outcome first_of ended
-  first_drafted s = by_header (WhereDrafted none s) s (λ screen. on_first screen (header ++ s) (first_of (header ++ s))) (λ n. tt) (λ z. go z (read_strip (header ++ s) 12) refl)
-    where
-      go : fits screen ≡ true → (x : Result Cursor Refusal) → read_strip (header ++ s) 12 ≡ x → WhereDrafted none s (on_first screen (header ++ s) (then_end (header ++ s) x))
-      go z (Err why) e = tt
-      go z (Ok new) e =
-          pick_cases (λ x. WhereDrafted none s (on_first screen (header ++ s) x)) (ltb new.at (length (header ++ s))) (refused TrailingByte new.at) (Ok new)
-          (λ t. tt)
-          (λ t. record { sizes = z; alone = (new, e, ends_there (header ++ s) 12 new e (ltb-false new.at (length (header ++ s)) t)); regions = refl; words = refl })
+  -- the bytes in front of the new strip: the header, and the last accepted strip behind it
+  abbrev before : Option (List ℕ) → List ℕ
+  before none = header
+  before (some old) = header ++ old
 
-  module _ (old s : List ℕ) (good : OneStrip header old) where
+  input_is : (last : Option (List ℕ)) (s : List ℕ) → before last ++ s ≡ header ++ strips_after last s
+  input_is none s = refl
+  input_is (some old) s = append_assoc header old s
+
+  module _ (last : Option (List ℕ)) (s : List ℕ) (good : GoodLast (OneStrip header) last) where
+    abbrev entry : Entry
+    entry = entry_after last
+
     abbrev input : List ℕ
-    input = (header ++ old) ++ s
+    input = before last ++ s
 
-    -- the new strip begins where the header and the old one end
-    new_drafted : fits screen ≡ true → (d : Cursor) → d.at ≡ length (header ++ old) → (x : Result Cursor Refusal) → read_strip input d.at ≡ x → WhereDrafted (some old) s (on_both screen input (then_new input d x))
-    unfolding ended
-    new_drafted z d at (Err why) e = tt
-    new_drafted z d at (Ok new) e =
-        pick_cases (λ (x : Result Cursor Refusal). WhereDrafted (some old) s (on_both screen input (with_old d x))) (ltb new.at (length input)) (refused TrailingByte new.at) (Ok new)
-        (λ t. tt)
-        (λ t. record {
+    abbrev AtEnd : Cursor → Type 0
+    AtEnd c = c.at ≡ length (before last)
+
+    -- there the old strip ends, or would have begun
+    old_end : (last : Option (List ℕ)) → GoodLast (OneStrip header) last → WhereRead (λ c. c.at ≡ length (before last)) (old_of (entry_after last) (before last ++ s))
+    old_end none g = sym twelve
+    old_end (some old) g = let d = old_read header twelve old s g in subst (WhereRead (λ c. c.at ≡ length (header ++ old))) (sym d.1) d.2
+
+    rects_are : (last : Option (List ℕ)) → GoodLast (OneStrip header) last → (new : List Command) → new ≡ commands s
+        → rects_since (entry_after last) screen (old_commands (entry_after last) (before last ++ s)) new ≡ boxes_since commands screen last s
+    rects_are none g new e = refl
+    rects_are (some old) g new e = λ i. diff_dirty (old_list header twelve old s g i) (e i)
+
+    strips_drafted : fits screen ≡ true → (x : Result Strips Refusal) → x ≡ strips_of entry input → WhereDrafted last s (on_strips entry screen input x)
+    strips_drafted z (Err why) e = tt
+    strips_drafted z (Ok both) e =
+        let told = strips_told entry input e refl in
+        let at : AtEnd both.old = subst (WhereRead AtEnd) told.0 (old_end last good) in
+        let new : commands_of input both.old.at ≡ commands s = ap (commands_of input) at ∙ as_alone header twelve (before last) s in
+        record {
           sizes = z;
-          alone = one_strip header twelve (header ++ old) s new (subst (λ (n : ℕ). read_strip input n ≡ Ok new) at e) (ltb-false new.at (length input) t);
-          regions = λ i. schedule screen (diff_dirty (old_list header twelve old s good i) (new_list i));
-          words = λ i. index_words screen.band_height (row_count screen.height screen.band_height) (map bounds (new_list i));
-        })
-      where
-        new_list : commands_of input d.at ≡ commands s
-        new_list = ap (commands_of input) at ∙ as_alone header twelve (header ++ old) s
+          alone = one_strip header twelve (before last) s both.new (subst (λ (n : ℕ). read_strip input n ≡ Ok both.new) at told.1) told.2;
+          regions = ap (schedule screen) (rects_are last good (commands_of input both.old.at) new);
+          words = λ i. index_words screen.band_height (row_count screen.height screen.band_height) (map bounds (new i));
+        }
 
-    both_drafted : fits screen ≡ true → WhereDrafted (some old) s (on_both screen input (both_of input))
-    both_drafted z =
-        let d = old_read header twelve old s good in
-        subst (λ x. WhereDrafted (some old) s (on_both screen input x)) (both_next input d.0 d.1) (new_drafted z d.0 d.2 (read_strip input d.0.at) refl)
-
-    next_drafted : WhereDrafted (some old) s (next_outcome (header ++ (old ++ s)))
-    unfolding next_outcome
-    next_drafted = by_header (WhereDrafted (some old) s) (old ++ s) (λ screen. on_both screen (header ++ (old ++ s)) (both_of (header ++ (old ++ s)))) (λ n. tt)
-        (λ z. subst (λ (t : List ℕ). WhereDrafted (some old) s (on_both screen t (both_of t))) (append_assoc header old s) (both_drafted z))
-
-  call_drafted : (last : Option (List ℕ)) (s : List ℕ) → GoodLast (OneStrip header) last → WhereDrafted last s (call_of header last s)
-  call_drafted none s g = first_drafted s
-  call_drafted (some old) s g = next_drafted old s g
+    call_drafted : WhereDrafted last s (call_of header last s)
+    unfolding outcome
+    call_drafted = by_header (WhereDrafted last s) (strips_after last s) (λ screen. on_strips entry screen (header ++ strips_after last s) (strips_of entry (header ++ strips_after last s))) (λ n. tt)
+        (λ z. subst (λ (t : List ℕ). WhereDrafted last s (on_strips entry screen t (strips_of entry t))) (input_is last s) (strips_drafted z (strips_of entry input) refl))
 
   -- ---- an accepted call
   accepted_drafted : (last : Option (List ℕ)) (s : List ℕ) (z : Lent) (x : Outcome) → WhereDrafted last s x → accepted (answer_of z x) ≡ true → Drafted last s x

@@ -1,8 +1,8 @@
 -- Every region of an accepted call has one row, in whatever words begin with the plan's. Assumes nothing.
 use mathlib.Core.Path.{◌≡◌, refl, sym, ap, ◌∙◌, subst}
 use mathlib.Core.Bool.{true, true≢false}
-use mathlib.Core.List.{List, ◌∷◌, [], ◌++◌, map}
-use mathlib.Core.Option.{Option, none, some}
+use mathlib.Core.List.{List, ◌++◌, map}
+use mathlib.Core.Option.{Option}
 use Prim.Native.Nat.{ℕ, ◌/◌, ◌<◌}
 use native.Mathlib.Omega.{arith}
 use lib.ListN.{length, drop}
@@ -15,20 +15,19 @@ use Rattle.commands.specs.Bounds.{bounds}
 use Rattle.device.specs.declared.DeviceRegion.{DeviceRegion}
 use Rattle.rows.specs.Rows.{row_count}
 use Rattle.index_words.specs.Index.{row_list, index_words}
-use Rattle.changes.specs.Changes.{diff_dirty}
 use Rattle.candidates.specs.Table.{candidates, refusal}
 use Rattle.candidates.proofs.Plans.{plan_accepted, plan_row}
 use Rattle.scheduler.specs.Schedule.{schedule}
 use Rattle.schedule_laws.specs.Placed.{Placed}
 use Rattle.schedule_laws.proofs.Boxes.{boxes_schedulable}
 use Rattle.strip.specs.Reading.{commands_of}
-use Rattle.strip.specs.declared.Cursor.{Cursor}
 use Rattle.frame.specs.declared.Strips.{Strips}
-use Rattle.frame.specs.Frame.{sizes_at, first_of, both_of}
-use Rattle.plans.specs.Drafts.{Outcome, refuses, drafted, screen_rect, on_first, on_both, first_outcome, next_outcome}
+use Rattle.frame.specs.declared.Entry.{Entry}
+use Rattle.frame.specs.Frame.{sizes_at, strips_of, old_commands}
+use Rattle.plans.specs.Drafts.{Outcome, refuses, drafted, rects_since, on_strips, outcome}
 use Rattle.plans.specs.Space.{Lent, lent_of}
 use Rattle.plans.specs.Answers.{answer_of, accepted, index_words_of}
-use Rattle.panels.specs.Entries.{call_of, drafted_regions}
+use Rattle.panels.specs.Entries.{entry_after, strips_after, call_of, drafted_regions}
 use Rattle.panels.specs.Rows.{RowAlike, SameRows}
 use Rattle.panels.proofs.Entries.{by_header, words_behind}
 use Rattle.screen.specs.declared.Screen.{Screen}
@@ -51,27 +50,22 @@ module _ (header : List ℕ) (twelve : length header ≡ 12) where
   WhereDrawn (refuses why) = Unit {0}
   WhereDrawn (drafted i d) = Drawn (drafted i d)
 
-  first_drawn : fits screen ≡ true → (s : List ℕ) (x : Result Cursor Refusal) → WhereDrawn (on_first screen s x)
-  first_drawn z s (Ok new) = record { sizes = z; rects = screen_rect screen ∷ []; boxes = map bounds (commands_of s 12); regions_are = refl; words_are = refl }
-  first_drawn z s (Err why) = tt
-
-  both_drawn : fits screen ≡ true → (s : List ℕ) (x : Result Strips Refusal) → WhereDrawn (on_both screen s x)
-  both_drawn z s (Ok both) = record {
+  strips_drawn : fits screen ≡ true → (entry : Entry) (s : List ℕ) (x : Result Strips Refusal) → WhereDrawn (on_strips entry screen s x)
+  strips_drawn z entry s (Ok both) = record {
     sizes = z;
-    rects = diff_dirty (commands_of s 12) (commands_of s both.old.at);
+    rects = rects_since entry screen (old_commands entry s) (commands_of s both.old.at);
     boxes = map bounds (commands_of s both.old.at);
     regions_are = refl;
     words_are = refl;
   }
-  both_drawn z s (Err why) = tt
+  strips_drawn z entry s (Err why) = tt
 
   call_drawn : (last : Option (List ℕ)) (s : List ℕ) → WhereDrawn (call_of header last s)
-  unfolding first_outcome next_outcome
-  call_drawn none s =
-      by_header header twelve WhereDrawn s (λ screen. on_first screen (header ++ s) (first_of (header ++ s))) (λ n. tt) (λ z. first_drawn z (header ++ s) (first_of (header ++ s)))
-  call_drawn (some old) s =
-      by_header header twelve WhereDrawn (old ++ s) (λ screen. on_both screen (header ++ (old ++ s)) (both_of (header ++ (old ++ s)))) (λ n. tt)
-      (λ z. both_drawn z (header ++ (old ++ s)) (both_of (header ++ (old ++ s))))
+  unfolding outcome
+  call_drawn last s =
+      let input = header ++ strips_after last s in
+      by_header header twelve WhereDrawn (strips_after last s) (λ screen. on_strips (entry_after last) screen input (strips_of (entry_after last) input)) (λ n. tt)
+      (λ z. strips_drawn z (entry_after last) input (strips_of (entry_after last) input))
 
   drawn : (z : Lent) (x : Outcome) → WhereDrawn x → accepted (answer_of z x) ≡ true → Drawn x
   drawn z (refuses why) m e = absurd (true≢false (sym e))

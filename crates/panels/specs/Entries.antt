@@ -2,18 +2,27 @@
 -- contracts, which speak of the same definitions.
 use Rattle.std.specs.Prelude.{◌≡◌, List, [], ◌++◌, ℕ, length}
 use Rattle.std.proofs.Math.Option.{Option, none, some}
+use Rattle.frame.specs.declared.Entry.{Entry}
+use Rattle.frame.specs.declared.Entry.TheVariants.{First, Next}
 use Rattle.frame.specs.Frame.{header_length, sizes_at}
 use Rattle.device.specs.declared.DeviceRegion.{DeviceRegion}
 use Rattle.strip.specs.Reading.{commands_of}
-use Rattle.plans.specs.Drafts.{Outcome, refuses, drafted, first_outcome, next_outcome}
+use Rattle.plans.specs.Drafts.{Outcome, refuses, drafted, outcome}
 use Rattle.plans.specs.Space.{Slices, lent_of}
 use Rattle.plans.specs.Answers.{answer_of, accepted, index_words_of, published}
 use Rattle.panels.specs.Panels.{Planner, PanelsAgree}
 
 -- "Until one is accepted, the first-frame entry gets header and strip; then the other entry gets header, last accepted strip and strip."
+abbrev pub entry_after : Option (List ℕ) → Entry
+entry_after none = First
+entry_after (some old) = Next
+
+abbrev pub strips_after : Option (List ℕ) → List ℕ → List ℕ
+strips_after none s = s
+strips_after (some old) s = old ++ s
+
 abbrev pub call_of : List ℕ → Option (List ℕ) → List ℕ → Outcome
-call_of header none s = first_outcome (header ++ s)
-call_of header (some old) s = next_outcome (header ++ (old ++ s))
+call_of header last s = outcome (entry_after last) (header ++ strips_after last s)
 
 -- the regions of an accepted call
 abbrev pub drafted_regions : Outcome → List DeviceRegion

@@ -2,7 +2,7 @@
 use mathlib.Core.Path.{◌≡◌, refl, sym, ap, ◌∙◌}
 use mathlib.Core.Bool.{Bool, true, false, ◌&&◌, true≢false}
 use mathlib.Core.List.{List}
-use mathlib.Core.Option.{Option, none, some}
+use mathlib.Core.Option.{Option}
 use Prim.Native.Nat.{ℕ}
 use lib.ListN.{length, drop}
 use Rattle.std.specs.Prelude.{Result}
@@ -12,16 +12,14 @@ use Rattle.refusals.specs.Table.{refused}
 use Rattle.lists.specs.Pick.{pick}
 use Rattle.scheduler.specs.Schedule.{words_of_regions, regions_to}
 use Rattle.scheduler.proofs.Reading.{regions_back}
-use Rattle.frame_drafts.specs.declared.Entry.{Entry}
-use Rattle.frame_drafts.specs.declared.Entry.TheVariants.{First, Next}
-use Rattle.frame_drafts.specs.Scratch.{outcome}
+use Rattle.frame.specs.declared.Entry.{Entry}
 use Rattle.plans.specs.declared.Plan.{Plan}
-use Rattle.plans.specs.Drafts.{Draft, Outcome, refuses, drafted, first_outcome, next_outcome}
+use Rattle.plans.specs.Drafts.{Draft, Outcome, refuses, drafted, outcome}
 use Rattle.plans.specs.Space.{Slices, Lent, lent_of}
 use Rattle.plans.specs.Answers.{items_fit, draft_fits, counts, answer_of, accepted, counts_of, region_words_of, index_words_of, published}
 use Rattle.planner.specs.Calls.{Promise}
 use Rattle.panels.specs.Entries.{call_of, drafted_regions}
-use Rattle.panels_calls.specs.Calls.{Called, CalledAs, CalledFirst, CalledNext}
+use Rattle.panels_calls.specs.Calls.{Called, CalledAs}
 
 -- an accepted answer is a plan with the counts of its draft
 planned : (t : Bool) (d : Draft) → accepted (pick t (counts d) (refused NoRoom 0)) ≡ true → pick t (counts d) (refused NoRoom 0) ≡ counts d
@@ -48,14 +46,5 @@ module _ (header : List ℕ) (last : Option (List ℕ)) (s : List ℕ) (before a
         words = k ∙ (λ j. published (e j) (index_words_of (q j)) before.words);
       }
 
-module _ (input : List ℕ) (before after : Slices) (r : Result Plan Refusal) where
-  -- of which call `CalledAs` speaks
-  pub as_first : ◌≡◌ {A = Type 0} (CalledAs First input before after r) (CalledFirst input before after r)
-  as_first = refl
-
-  pub as_next : ◌≡◌ {A = Type 0} (CalledAs Next input before after r) (CalledNext input before after r)
-  as_next = refl
-
-  pub called_as : (entry : Entry) → Promise (outcome entry input) before after r → CalledAs entry input before after r
-  called_as First p = λ header s e. called header none s before after r (first_outcome input) (ap first_outcome e) p.answer.plan p.scheduled p.index
-  called_as Next p = λ header old s e. called header (some old) s before after r (next_outcome input) (ap next_outcome e) p.answer.plan p.scheduled p.index
+pub called_as : (input : List ℕ) (before after : Slices) (r : Result Plan Refusal) (entry : Entry) → Promise (outcome entry input) before after r → CalledAs entry input before after r
+called_as input before after r entry p = λ header last s f e. called header last s before after r (outcome entry input) (λ i. outcome (f i) (e i)) p.answer.plan p.scheduled p.index

@@ -1,14 +1,13 @@
 -- A call of an entry beside the planner that the statement about the panels speaks of (`entries` of crate `panels`).
 use Rattle.refusals.specs.declared.Refusal.{Refusal}
 use Rattle.std.specs.Prelude.{◌≡◌, true, List, ◌++◌, ℕ, Result}
-use Rattle.std.proofs.Math.Option.{Option, none, some}
+use Rattle.std.proofs.Math.Option.{Option}
 use Rattle.scheduler.specs.Schedule.{regions_to}
-use Rattle.frame_drafts.specs.declared.Entry.{Entry}
-use Rattle.frame_drafts.specs.declared.Entry.TheVariants.{First, Next}
+use Rattle.frame.specs.declared.Entry.{Entry}
 use Rattle.plans.specs.declared.Plan.{Plan}
 use Rattle.plans.specs.Space.{Slices}
 use Rattle.plans.specs.Answers.{accepted, counts_of}
-use Rattle.panels.specs.Entries.{entries}
+use Rattle.panels.specs.Entries.{entry_after, strips_after, entries}
 
 -- What a call hands back and leaves in its slices is what that planner says for the header, the last accepted strip and the strip: whether it is accepted, the
 -- regions as they stand in their slice afterwards, as many as are counted, and all index words as they stand in theirs.
@@ -17,16 +16,8 @@ pub record Called (header : List ℕ) (last : Option (List ℕ)) (strip : List �
   pub regions : accepted plan ≡ true → regions_to after.regions (counts_of plan).regions ≡ (entries header).regions last strip before
   pub words : after.words ≡ (entries header).words last strip before
 
--- "the first-frame entry gets header and strip", however the input is cut into the two
-abbrev pub CalledFirst : List ℕ → Slices → Slices → Result Plan Refusal → Type 0
-CalledFirst input before after plan = (header strip : List ℕ) → input ≡ header ++ strip → Called header none strip before after plan
-
--- "then the other entry gets header, last accepted strip and strip"
-abbrev pub CalledNext : List ℕ → Slices → Slices → Result Plan Refusal → Type 0
-CalledNext input before after plan =
-    (header old strip : List ℕ) → input ≡ header ++ (old ++ strip) → Called header (some old) strip before after plan
-
--- the one or the other, by the entry that is called
+-- "the first-frame entry gets header and strip; then the other entry gets header, last accepted strip and strip", however the input is cut into these
 abbrev pub CalledAs : Entry → List ℕ → Slices → Slices → Result Plan Refusal → Type 0
-CalledAs First input before after plan = CalledFirst input before after plan
-CalledAs Next input before after plan = CalledNext input before after plan
+CalledAs entry input before after plan =
+    (header : List ℕ) (last : Option (List ℕ)) (strip : List ℕ)
+    → entry ≡ entry_after last → input ≡ header ++ strips_after last strip → Called header last strip before after plan

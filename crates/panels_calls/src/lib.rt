@@ -11,7 +11,6 @@ use refusals::Refusal;
 
 // A first frame, header and strip, or a frame after an accepted one: header, last accepted strip and strip. Any bytes and any lent
 // space will do. The slices are parameters as those of `planner::plan` are.
-#[tactic(auto, using(crate::proofs::Calls::called_as))]
 pub fn frame(
     entry: Entry,
     input: &[u8],

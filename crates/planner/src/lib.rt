@@ -5,10 +5,10 @@
 ghost use Rattle.std.specs.Prelude.{◌≡◌, ◌++◌, ◌/◌, min, length, take, drop};
 ghost use Rattle.plans.specs.Space.{lent_of};
 ghost use Rattle.plans.specs.Answers as Answers;
-ghost use Rattle.frame_drafts.specs.Scratch.{outcome};
+ghost use Rattle.plans.specs.Drafts.{outcome};
 ghost use Rattle.planner.specs.Calls.{slices, Promise, rect_count, region_count, word_count, Copies, Zeros, ZeroFloats};
 
-pub use frame_drafts::Entry;
+pub use frame::Entry;
 use plans::{Plan, Room};
 use refusals::Refusal;
 

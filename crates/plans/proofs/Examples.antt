@@ -19,7 +19,7 @@ use Rattle.floats.specs.Next.{next_down}
 use Rattle.floats.specs.Order.{larger, smaller}
 use Rattle.floats.specs.Whole.{floor, ceil}
 use Rattle.screen.specs.Sizes.{size_fits}
-use Rattle.frame.specs.Frame.{header_of, ended, both_of, first_of}
+use Rattle.frame.specs.Frame.{header_of, ended, strips_of}
 use Rattle.geometry.specs.Boxes.{positive_area, same_edges}
 use Rattle.geometry.specs.Pixels.{spans, meets, touches}
 use Rattle.index_words.specs.Index.{stands_in, places, row_list, entries_to, start_of, starts_to, layout, index_words}
@@ -33,7 +33,7 @@ use Rattle.strip.specs.Reading.{read_from, list_from}
 use Rattle.strip.specs.Steps.{due_fits, clip_step, pop_step, draw_step, run_step, last_step, glyph_step, effect_of, step_at}
 use Rattle.strip_format.specs.Format.{length_of, join_of, cap_of, command_at, glyphs_from}
 use Rattle.runtime.specs.Work.{work_of}
-use Rattle.plans.specs.Drafts.{first_outcome, next_outcome}
+use Rattle.plans.specs.Drafts.{outcome, first_outcome, next_outcome}
 use Rattle.plans.specs.Space.{Lent}
 use Rattle.plans.specs.Answers.{items_fit, draft_fits, planned, answer_of}
 use Rattle.rect_words.specs.Words.{boxes_to}
@@ -76,5 +76,5 @@ pub record Turn : Type 0 where
 
 -- other inputs are worked out by opening what is opened here: `unfolding worked`
 unfoldable pub worked : Turn
-unfolding first_outcome next_outcome items_fit draft_fits changed_glyphs changed_at change changed_bounds diff_dirty same_fill same_stroked same_run same_scene run_alike same_drawing fills_alike runs_alike equal runs_alike_clipped read_from list_from due_fits clip_step pop_step draw_step run_step last_step glyph_step effect_of step_at finite_from finite_stroke finite_run finite_glyph codes_fit operands_at length_of join_of cap_of command_at glyphs_from with_area rect_difference rect_symmetric_difference keep around same_affine same_cap same_stroke same_bits same_glyph equal_glyph same_path equal_glyphs same_clips stroke_bounds_inflation united_from clip_from bounds glyph_bounds bounding_box transform_rect_bbox finite_point all_finite bound_finite try_transform spans meets touches positive_area same_edges u16_at u32_at u64_at finite_or floor ceil next_down larger smaller All Any Pairs size_fits header_of ended both_of first_of bands_to pixels_of words_of_regions pack from_xy from_yx boxes_to regions_of cut_to insert_by sort_by join_to join merge_overlapping insert sort AtLeast Ascending between intersect union stands_in places row_list entries_to start_of starts_to layout index_words of_int of_bits to_bits eq lt add mul div
+unfolding outcome items_fit draft_fits changed_glyphs changed_at change changed_bounds diff_dirty same_fill same_stroked same_run same_scene run_alike same_drawing fills_alike runs_alike equal runs_alike_clipped read_from list_from due_fits clip_step pop_step draw_step run_step last_step glyph_step effect_of step_at finite_from finite_stroke finite_run finite_glyph codes_fit operands_at length_of join_of cap_of command_at glyphs_from with_area rect_difference rect_symmetric_difference keep around same_affine same_cap same_stroke same_bits same_glyph equal_glyph same_path equal_glyphs same_clips stroke_bounds_inflation united_from clip_from bounds glyph_bounds bounding_box transform_rect_bbox finite_point all_finite bound_finite try_transform spans meets touches positive_area same_edges u16_at u32_at u64_at finite_or floor ceil next_down larger smaller All Any Pairs size_fits header_of ended strips_of bands_to pixels_of words_of_regions pack from_xy from_yx boxes_to regions_of cut_to insert_by sort_by join_to join merge_overlapping insert sort AtLeast Ascending between intersect union stands_in places row_list entries_to start_of starts_to layout index_words of_int of_bits to_bits eq lt add mul div
 worked = record { turn = refl; first = refl; short = refl; behind = refl; empty = refl }

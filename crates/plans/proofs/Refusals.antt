@@ -6,7 +6,8 @@ use Rattle.lists.proofs.Picks.{pick_cases}
 use Rattle.refusals.specs.declared.Fault.TheVariants.{NoRoom}
 use Rattle.refusals.specs.Table.{number, refused}
 use Rattle.refusals.proofs.Numbers.{number_positive}
-use Rattle.plans.specs.Drafts.{Outcome, refuses, drafted, first_outcome, next_outcome}
+use Rattle.plans.specs.Drafts.{Outcome, refuses, drafted, outcome}
+use Rattle.frame.specs.declared.Entry.{Entry}
 use Rattle.plans.specs.Space.{Lent}
 use Rattle.plans.specs.Answers.{items_fit, draft_fits, counts, answer_of, accepted, number_of}
 
@@ -19,20 +20,11 @@ numbered : (o : Outcome) → NumberedOutcome o
 numbered (refuses why) = number_positive why.fault
 numbered (drafted i d) = tt
 
-pub first_numbered : (s : List ℕ) → NumberedOutcome (first_outcome s)
-first_numbered s = numbered (first_outcome s)
-
-pub next_numbered : (s : List ℕ) → NumberedOutcome (next_outcome s)
-next_numbered s = numbered (next_outcome s)
-
 -- ---- the answer
 number_tells : (z : Lent) (o : Outcome) → NumberedOutcome o → eqb (number_of (answer_of z o)) 0 ≡ accepted (answer_of z o)
 number_tells z (refuses why) h = ne_eqb (number why.fault) 0 (λ e. omega arith)
 number_tells z (drafted i d) h = pick_cases (λ x. eqb (number_of x) 0 ≡ accepted x) (items_fit z i && draft_fits z d) (counts d) (refused NoRoom 0) (λ e. refl) (λ e. refl)
 
 -- 0 exactly where there is a plan
-pub first_number_tells : (z : Lent) (s : List ℕ) → eqb (number_of (answer_of z (first_outcome s))) 0 ≡ accepted (answer_of z (first_outcome s))
-first_number_tells z s = number_tells z (first_outcome s) (first_numbered s)
-
-pub next_number_tells : (z : Lent) (s : List ℕ) → eqb (number_of (answer_of z (next_outcome s))) 0 ≡ accepted (answer_of z (next_outcome s))
-next_number_tells z s = number_tells z (next_outcome s) (next_numbered s)
+pub outcome_number_tells : (z : Lent) (entry : Entry) (s : List ℕ) → eqb (number_of (answer_of z (outcome entry s))) 0 ≡ accepted (answer_of z (outcome entry s))
+outcome_number_tells z entry s = number_tells z (outcome entry s) (numbered (outcome entry s))

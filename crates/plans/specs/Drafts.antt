@@ -13,7 +13,9 @@ use Rattle.strip.specs.Reading.{commands_of}
 use Rattle.screen.specs.declared.Screen.{Screen}
 use Rattle.frame.specs.declared.Strips.{Strips}
 use Rattle.strip.specs.declared.Cursor.{Cursor}
-use Rattle.frame.specs.Frame.{header_length, header_of, first_of, both_of}
+use Rattle.frame.specs.declared.Entry.{Entry}
+use Rattle.frame.specs.declared.Entry.TheVariants.{First, Next}
+use Rattle.frame.specs.Frame.{header_of, strips_of, old_commands}
 
 -- changed rectangles, scheduled regions, index words, and "commands emitted are the new strip's drawing commands"
 pub record Draft : Type 0 where
@@ -46,30 +48,32 @@ pub data Outcome : Type 0 where
 abbrev pub screen_rect : Screen → Rect
 screen_rect screen = record { x0 = whole 0; y0 = whole 0; x1 = whole screen.width; y1 = whole screen.height }
 
-abbrev pub items_of : Cursor → Items
-items_of end = record { commands = end.commands; glyphs = end.glyphs; clips = end.clips }
+abbrev pub items_of : Cursor → Cursor → Items
+items_of old new = record { commands = old.commands + new.commands; glyphs = old.glyphs + new.glyphs; clips = old.clips + new.clips }
 
-abbrev pub items_of_both : Cursor → Cursor → Items
-items_of_both old new = record { commands = old.commands + new.commands; glyphs = old.glyphs + new.glyphs; clips = old.clips + new.clips }
+-- the changed rectangles, from the old strip's commands to the new one's
+abbrev pub rects_since : Entry → Screen → List Command → List Command → List Rect
+rects_since First screen old new = screen_rect screen ∷ []
+rects_since Next screen old new = diff_dirty old new
 
-abbrev pub on_first : Screen → List ℕ → Result Cursor Refusal → Outcome
-on_first screen s (Ok new) = drafted (items_of new) (draft screen (screen_rect screen ∷ []) (commands_of s header_length))
-on_first screen s (Err why) = refuses why
-
-abbrev pub on_both : Screen → List ℕ → Result Strips Refusal → Outcome
-on_both screen s (Ok both) =
-    drafted (items_of_both both.old both.new) (draft screen (diff_dirty (commands_of s header_length) (commands_of s both.old.at)) (commands_of s both.old.at))
-on_both screen s (Err why) = refuses why
+abbrev pub on_strips : Entry → Screen → List ℕ → Result Strips Refusal → Outcome
+on_strips entry screen s (Ok both) =
+    drafted (items_of both.old both.new)
+    (draft screen (rects_since entry screen (old_commands entry s) (commands_of s both.old.at)) (commands_of s both.old.at))
+on_strips entry screen s (Err why) = refuses why
 
 -- 1 and 2 of the header have position 0
 abbrev pub on_header : Result Screen Refusal → (Screen → Outcome) → Outcome
 on_header (Ok screen) k = k screen
 on_header (Err why) k = refuses why
 
--- "A first frame has an entry point of its own: header and one strip, the same checks."
-unfoldable pub first_outcome : List ℕ → Outcome
-first_outcome s = on_header (header_of s) (λ screen. on_first screen s (first_of s))
+-- what the bytes come to. "The header .. Then the old strip, then the new."
+unfoldable pub outcome : Entry → List ℕ → Outcome
+outcome entry s = on_header (header_of s) (λ screen. on_strips entry screen s (strips_of entry s))
 
--- "The header .. Then the old strip, then the new."
-unfoldable pub next_outcome : List ℕ → Outcome
-next_outcome s = on_header (header_of s) (λ screen. on_both screen s (both_of s))
+-- for the two entries: "A first frame has an entry point of its own: header and one strip, the same checks."
+abbrev pub first_outcome : List ℕ → Outcome
+first_outcome s = outcome First s
+
+abbrev pub next_outcome : List ℕ → Outcome
+next_outcome s = outcome Next s

@@ -1,4 +1,4 @@
--- Whole inputs: one strip behind the header, or two. Assumes nothing.
+-- Whole inputs: the new strip behind the old one, which may be nothing. Assumes nothing.
 use mathlib.Core.Path.{◌≡◌, refl, sym, ap, ◌∙◌, subst}
 use mathlib.Core.List.{List}
 use Prim.Native.Nat.{ℕ, ◌+◌, ◌≤◌}
@@ -12,14 +12,18 @@ use Rattle.refusals.specs.Table.{refused}
 use Rattle.lists.proofs.Picks.{pick_cases}
 use Rattle.clips.proofs.Chaining.{no_clips}
 use Rattle.strip.specs.declared.Cursor.{Cursor}
-use Rattle.strip.specs.Reading.{read_strip, commands_of}
+use Rattle.strip.specs.Steps.{start_at}
+use Rattle.strip.specs.Reading.{read_strip}
 use Rattle.strip_laws.specs.Limits.{Within, WhereRead}
 use Rattle.strip_laws.proofs.Limits.{strip_within}
 use Rattle.frame.specs.declared.Strips.{Strips}
-use Rattle.frame.specs.Frame.{header_length, first_of, both_of, with_old, then_new, then_strips, then_end, ended}
+use Rattle.frame.specs.declared.Entry.{Entry}
+use Rattle.frame.specs.declared.Entry.TheVariants.{First, Next}
+use Rattle.frame.specs.Frame.{header_length, old_of, strips_of, old_commands, with_old, then_new, then_end, ended}
+use Rattle.frame.proofs.Checks.{strips_next}
 use Rattle.stored_lists.specs.Stored.{commands_in}
-use Rattle.recording.specs.Recorded.{Space, SameLengths, Room, Holds, Records, RecordsFirst, Two, RecordsNew, RecordsBoth}
-use Rattle.recording.proofs.Lists.{lists_alike}
+use Rattle.recording.specs.Recorded.{Space, SameLengths, Room, Holds, Records, Two, RecordsNew, RecordsStrips}
+use Rattle.recording.proofs.Lists.{lists_alike, list_none}
 
 -- a space that nothing has been written to holds nothing
 holds_none : (s : List ℕ) (z : Space) → Holds 0 0 s z
@@ -48,20 +52,8 @@ room_less : {x : Space} {c d m n : ℕ} → c ≤ d → m ≤ n → Room d n x �
 room_less p q r = record { boxes = omega (arith, r.boxes); below = omega (arith, r.below); items = omega (arith, r.items); item_boxes = omega (arith, r.item_boxes) }
 
 -- the counts of a strip that was read are small
-read_small : (s : List ℕ) (at : ℕ) (t : Cursor) → Ok t ≡ read_strip s at → (t.clips ≤ 4096) × (t.commands ≤ 4096)
+pub read_small : (s : List ℕ) (at : ℕ) (t : Cursor) → Ok t ≡ read_strip s at → (t.clips ≤ 4096) × (t.commands ≤ 4096)
 read_small s at t e = let w : WhereRead Within (Ok t) = subst (WhereRead Within) (sym e) (strip_within s at) in (w.clips, w.commands)
-
--- ---- the first strip, recorded from nothing
-record First-strip (s : List ℕ) (y : Space) (t : Cursor) : Type 0 where
-  held : Holds t.clips t.commands s y
-  listed : commands_in s y.boxes y.below y.items 0 t.commands ≡ commands_of s header_length
-
-first_strip : (s : List ℕ) (z y : Space) (t : Cursor) → SameLengths z y → Records s header_length 0 0 z y (Ok t) → Room t.clips t.commands y → First-strip s y t
-first_strip s z y t l h r =
-    let k = h (holds_none s z) (room_less (omega arith) (omega arith) (room_before l r)) in
-    let c : 0 + t.clips ≡ t.clips = omega arith in
-    let m : 0 + t.commands ≡ t.commands = omega arith in
-    record { held = subst (λ (a : ℕ). Holds a t.commands s y) c (subst (λ (a : ℕ). Holds (0 + t.clips) a s y) m k.held); listed = k.listed }
 
 -- ---- a strip that was read, and what its end comes to
 -- the cursor of an end is that of the strip
@@ -80,24 +72,6 @@ end_is s t new e = pick_cases Same (ltb t.at (length s)) (refused TrailingByte t
     Same : Result Cursor Refusal → Type 0
     Same x = (n : Cursor) → Ok n ≡ x → t ≡ n
 
--- ---- the strip of a first frame
-module _ (s : List ℕ) (z y : Space) (r : Result Cursor Refusal) (a : r ≡ read_strip s header_length) (l : SameLengths z y) (h : Records s header_length 0 0 z y r) where
-  abbrev Firsts : Result Cursor Refusal → Type 0
-  Firsts f = (f ≡ first_of s) × (SameLengths z y × RecordsFirst s y f)
-
-  module _ (t : Cursor) (q : r ≡ Ok t) where
-    pub first_read : (f : Result Cursor Refusal) → f ≡ ended s t → Firsts f
-    unfolding first_of
-    first_read f e = (e ∙ ap (then_end s) (sym q ∙ a), (l, records f e))
-      where
-        records : (f : Result Cursor Refusal) → f ≡ ended s t → RecordsFirst s y f
-        records (Ok new) e = λ u. let v = subst (λ (c : Cursor). First-strip s y c) (end_is s t new e) (first_strip s z y t l (subst (Records s header_length 0 0 z y) q h) (subst (λ (c : Cursor). Room c.clips c.commands y) (sym (end_is s t new e)) u)) in (v.held, v.listed)
-        records (Err why) e = tt
-
-  pub first_refused : (why : Refusal) → r ≡ Err why → Firsts (Err why)
-  unfolding first_of
-  first_refused why q = (ap (then_end s) (sym q ∙ a), (l, tt))
-
 -- ---- the new strip behind the old one
 module _ (s : List ℕ) (old : Cursor) (z y : Space) (r : Result Cursor Refusal) (a : r ≡ read_strip s old.at) (l : SameLengths z y) (h : Records s old.at old.clips old.commands z y r) where
   abbrev News : Result Strips Refusal → Type 0
@@ -113,43 +87,62 @@ module _ (s : List ℕ) (old : Cursor) (z y : Space) (r : Result Cursor Refusal)
   pub new_refused : (why : Refusal) → r ≡ Err why → News (Err why)
   new_refused why q = (ap (λ (x : Result Cursor Refusal). with_old old (then_end s x)) (sym q ∙ a), (l, tt))
 
--- ---- both
--- the old cursor of two strips is the one that they were made with
-abbrev old_of : Result Strips Refusal → Cursor → Cursor
-old_of (Ok both) c = both.old
-old_of (Err why) c = c
+-- ---- the old strip, from x to z, up to the cursor `old`
+pub record OldHeld (entry : Entry) (s : List ℕ) (z : Space) (old : Cursor) : Type 0 where
+  held : Holds old.clips old.commands s z
+  listed : commands_in s z.boxes z.below z.items 0 old.commands ≡ old_commands entry s
 
-old_kept : (old : Cursor) (x : Result Cursor Refusal) → old_of (with_old old x) old ≡ old
+pub record OldRecorded (entry : Entry) (s : List ℕ) (x z : Space) (old : Cursor) : Type 0 where
+  pub read : old_of entry s ≡ Ok old
+  pub lengths : SameLengths x z
+  pub lists : Room old.clips old.commands z → OldHeld entry s z old
+
+-- there is none
+pub none_recorded : (s : List ℕ) (x : Space) (old : Cursor) → old ≡ start_at header_length → OldRecorded First s x x old
+none_recorded s x old e = subst (OldRecorded First s x x) (sym e) (record {
+  read = refl;
+  lengths = record { boxes = refl; below = refl; items = refl; item_boxes = refl };
+  lists = λ r. record { held = holds_none s x; listed = list_none s x.boxes x.below x.items 0 };
+})
+
+-- it is recorded from nothing
+pub old_recorded : (s : List ℕ) (x z : Space) (old : Cursor) → Ok old ≡ read_strip s header_length → SameLengths x z → Records s header_length 0 0 x z (Ok old) → OldRecorded Next s x z old
+old_recorded s x z old a l h = record {
+  read = sym a;
+  lengths = l;
+  lists = λ r.
+      let k = h (holds_none s x) (room_less (omega arith) (omega arith) (room_before l r)) in
+      let c : 0 + old.clips ≡ old.clips = omega arith in
+      let m : 0 + old.commands ≡ old.commands = omega arith in
+      record { held = subst (λ (a : ℕ). Holds a old.commands s z) c (subst (λ (a : ℕ). Holds (0 + old.clips) a s z) m k.held); listed = k.listed };
+}
+
+-- ---- and the new one behind it
+-- the old cursor of two strips is the one that they were made with
+abbrev cursor_in : Result Strips Refusal → Cursor → Cursor
+cursor_in (Ok both) c = both.old
+cursor_in (Err why) c = c
+
+old_kept : (old : Cursor) (x : Result Cursor Refusal) → cursor_in (with_old old x) old ≡ old
 old_kept old (Ok new) = refl
 old_kept old (Err why) = refl
 
-module _ (s : List ℕ) (x z : Space) (r : Result Cursor Refusal) (a : r ≡ read_strip s header_length) (l : SameLengths x z) (h : Records s header_length 0 0 x z r) where
-  abbrev Boths : Space → Result Strips Refusal → Type 0
-  Boths y f = (f ≡ both_of s) × (SameLengths x y × RecordsBoth s y f)
+module _ (entry : Entry) (s : List ℕ) (x z y : Space) (old : Cursor) (o : OldRecorded entry s x z old) (f : Result Strips Refusal) (b : f ≡ then_new s old (read_strip s old.at)) (k : SameLengths z y) (c : RecordsNew s old z y f) where
+  two : (new : Cursor) → RecordsNew s old z y (Ok (record { old = old; new = new })) → Room (old.clips + new.clips) (old.commands + new.commands) y → Two entry s old new y
+  two new c u =
+      let f = o.lists (room_less (omega arith) (omega arith) (room_before k u)) in
+      let n = c f.held (room_before k u) in
+      record {
+        held = n.held;
+        old_list = lists_alike s y.boxes z.boxes y.below z.below y.items z.items old.commands 0 (λ i v. n.kept i (omega arith)) ∙ f.listed;
+        new_list = n.listed;
+      }
 
-  pub both_small : (old : Cursor) → r ≡ Ok old → (old.clips ≤ 4096) × (old.commands ≤ 4096)
-  both_small old q = read_small s header_length old (sym q ∙ a)
-
-  pub both_new : (y : Space) (old : Cursor) → r ≡ Ok old → (f : Result Strips Refusal) → f ≡ then_new s old (read_strip s old.at) → SameLengths z y → RecordsNew s old z y f → Boths y f
-  unfolding both_of
-  both_new y old q f b k c = (b ∙ ap (then_strips s) (sym q ∙ a), (lengths_both l k, go f b c))
+  pub strips_recorded : (f ≡ strips_of entry s) × (SameLengths x y × RecordsStrips entry s y f)
+  strips_recorded = (b ∙ strips_next entry s old o.read, (lengths_both o.lengths k, go f b c))
     where
-      two : (new : Cursor) → RecordsNew s old z y (Ok (record { old = old; new = new })) → Room (old.clips + new.clips) (old.commands + new.commands) y → Two s old new y
-      two new c u =
-          let f = first_strip s x z old l (subst (Records s header_length 0 0 x z) q h) (room_less (omega arith) (omega arith) (room_before k u)) in
-          let n = c f.held (room_before k u) in
-          record {
-            held = n.held;
-            old_list = lists_alike s y.boxes z.boxes y.below z.below y.items z.items old.commands 0 (λ i v. n.kept i (omega arith)) ∙ f.listed;
-            new_list = n.listed;
-          }
-
-      go : (f : Result Strips Refusal) → f ≡ then_new s old (read_strip s old.at) → RecordsNew s old z y f → RecordsBoth s y f
+      go : (f : Result Strips Refusal) → f ≡ then_new s old (read_strip s old.at) → RecordsNew s old z y f → RecordsStrips entry s y f
       go (Ok both) b c =
-          let e : both.old ≡ old = ap (λ (p : Result Strips Refusal). old_of p old) b ∙ old_kept old (then_end s (read_strip s old.at)) in
-          subst (λ (p : Cursor). Room (p.clips + both.new.clips) (p.commands + both.new.commands) y → Two s p both.new y) (sym e) (two both.new c)
+          let e : both.old ≡ old = ap (λ (p : Result Strips Refusal). cursor_in p old) b ∙ old_kept old (then_end s (read_strip s old.at)) in
+          subst (λ (p : Cursor). Room (p.clips + both.new.clips) (p.commands + both.new.commands) y → Two entry s p both.new y) (sym e) (two both.new c)
       go (Err why) b c = tt
-
-  pub both_refused : (why : Refusal) → r ≡ Err why → Boths z (Err why)
-  unfolding both_of
-  both_refused why q = (ap (then_strips s) (sym q ∙ a), (l, tt))

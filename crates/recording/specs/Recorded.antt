@@ -6,7 +6,8 @@ use Rattle.strip.specs.declared.Cursor.{Cursor}
 use Rattle.strip.specs.Reading.{commands_of}
 use Rattle.strip_laws.specs.Limits.{WhereRead}
 use Rattle.frame.specs.declared.Strips.{Strips}
-use Rattle.frame.specs.Frame.{header_length}
+use Rattle.frame.specs.declared.Entry.{Entry}
+use Rattle.frame.specs.Frame.{old_commands}
 use Rattle.stored_lists.specs.Stored.{command_in, commands_in, Stored}
 
 -- the lent space of display lists: the clips' boxes and the numbers below them, the commands' words and boxes
@@ -50,16 +51,10 @@ Records s at clips commands z y r =
     WhereRead (λ t. Holds clips commands s z → Room (clips + t.clips) (commands + t.commands) z → Recorded s at clips commands z y t) r
 
 -- ---- a whole input
--- the strip of a first frame
-abbrev pub RecordsFirst : List ℕ → Space → Result Cursor Refusal → Type 0
-RecordsFirst s y (Ok new) =
-    Room new.clips new.commands y → Holds new.clips new.commands s y × (commands_in s y.boxes y.below y.items 0 new.commands ≡ commands_of s header_length)
-RecordsFirst s y (Err why) = Unit {0}
-
 -- the old strip's commands, then the new one's
-pub record Two (s : List ℕ) (old new : Cursor) (y : Space) : Type 0 where
+pub record Two (entry : Entry) (s : List ℕ) (old new : Cursor) (y : Space) : Type 0 where
   pub held : Holds (old.clips + new.clips) (old.commands + new.commands) s y
-  pub old_list : commands_in s y.boxes y.below y.items 0 old.commands ≡ commands_of s header_length
+  pub old_list : commands_in s y.boxes y.below y.items 0 old.commands ≡ old_commands entry s
   pub new_list : commands_in s y.boxes y.below y.items old.commands new.commands ≡ commands_of s old.at
 
 -- the new strip, recorded behind the old one, which is held
@@ -69,6 +64,7 @@ RecordsNew s old z y (Ok both) =
     → Room (old.clips + both.new.clips) (old.commands + both.new.commands) z → Recorded s old.at old.clips old.commands z y both.new
 RecordsNew s old z y (Err why) = Unit {0}
 
-abbrev pub RecordsBoth : List ℕ → Space → Result Strips Refusal → Type 0
-RecordsBoth s y (Ok both) = Room (both.old.clips + both.new.clips) (both.old.commands + both.new.commands) y → Two s both.old both.new y
-RecordsBoth s y (Err why) = Unit {0}
+abbrev pub RecordsStrips : Entry → List ℕ → Space → Result Strips Refusal → Type 0
+RecordsStrips entry s y (Ok both) =
+    Room (both.old.clips + both.new.clips) (both.old.commands + both.new.commands) y → Two entry s both.old both.new y
+RecordsStrips entry s y (Err why) = Unit {0}

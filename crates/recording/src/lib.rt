@@ -6,10 +6,10 @@ ghost use Rattle.std.specs.Prelude.{◌≡◌, ◌≤◌};
 ghost use Rattle.strip_format.specs.Limits as Limits;
 ghost use Rattle.frame.specs.Frame as Frame;
 ghost use Rattle.strip.specs.Reading.{read_strip};
-ghost use Rattle.recording.specs.Recorded.{space, SameLengths, Records, RecordsFirst, RecordsNew, RecordsBoth};
+ghost use Rattle.recording.specs.Recorded.{space, SameLengths, Records, RecordsNew, RecordsStrips};
 
 use display_list::ListState;
-use frame::{HEADER_LENGTH, Strips};
+use frame::{Entry, HEADER_LENGTH, Strips};
 use refusals::Refusal;
 use strip::{Cursor, Step};
 
@@ -64,22 +64,6 @@ fn record_strip(
     }
 }
 
-// The strip of a first frame, and nothing behind it.
-pub fn record_first(
-    s: &[u8],
-    boxes: &mut [f64],
-    below: &mut [u64],
-    items: &mut [u64],
-    item_boxes: &mut [f64],
-) -> Result<Cursor, Refusal>
-    ensures answer { result ≡ Frame.first_of s.now }
-    ensures lengths { SameLengths (space boxes.old below.old items.old item_boxes.old) (space boxes.new below.new items.new item_boxes.new) }
-    ensures lists { RecordsFirst s.now (space boxes.new below.new items.new item_boxes.new) result }
-{
-    let new = record_strip(s, HEADER_LENGTH, 0, 0, boxes, below, items, item_boxes)?;
-    frame::at_end(s, new)
-}
-
 // The new strip, recorded behind the old one, and nothing behind it.
 fn record_new(
     s: &[u8],
@@ -103,18 +87,22 @@ fn record_new(
     Ok(Strips { old, new })
 }
 
-// The two strips behind the header, and nothing behind them.
-pub fn record_both(
+// The strips behind the header, and nothing behind them. Of a first frame's old strip there is nothing to record.
+pub fn record_strips(
+    entry: Entry,
     s: &[u8],
     boxes: &mut [f64],
     below: &mut [u64],
     items: &mut [u64],
     item_boxes: &mut [f64],
 ) -> Result<Strips, Refusal>
-    ensures answer { result ≡ Frame.both_of s.now }
+    ensures answer { result ≡ Frame.strips_of entry s.now }
     ensures lengths { SameLengths (space boxes.old below.old items.old item_boxes.old) (space boxes.new below.new items.new item_boxes.new) }
-    ensures lists { RecordsBoth s.now (space boxes.new below.new items.new item_boxes.new) result }
+    ensures lists { RecordsStrips entry s.now (space boxes.new below.new items.new item_boxes.new) result }
 {
-    let old = record_strip(s, HEADER_LENGTH, 0, 0, boxes, below, items, item_boxes)?;
+    let old = match entry {
+        Entry::First => Cursor::start(HEADER_LENGTH),
+        Entry::Next => record_strip(s, HEADER_LENGTH, 0, 0, boxes, below, items, item_boxes)?,
+    };
     record_new(s, old, boxes, below, items, item_boxes)
 }
