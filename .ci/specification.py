@@ -8,7 +8,7 @@ names from there through the specs files, and looks on the page for every defini
 (`Rattle.std`, `mathlib`).
 
 It goes by definitions, not by files: a file that a plan needs for one definition may import what only inner functions
-promise one another (crates/bands/specs/Bands.antt imports crates/rect_words/specs/Words.antt so), and by files the page would
+promise one another (crates/compositor_bands/specs/Bands.antt imports crates/base_rect_words/specs/Words.antt so), and by files the page would
 have to list that too. A name that is a variable somewhere counts as a use of the definition of that name, but for the
 variables of an equation's left side: more is asked of the page then, never less.
 
@@ -27,7 +27,7 @@ DOCUMENT = os.environ.get("DOCUMENT_01", "../shared/01-scope.md")
 # Where the statements are: the contracts of all public functions of these files, and the definitions that say it all.
 CONTRACTS = [
     "crates/planner/src/lib.rt",
-    "crates/candidates/src/lib.rt",
+    "crates/compositor_candidates/src/lib.rt",
     "crates/sovdringa/src/lib.rt",
     "crates/panels_calls/src/lib.rt",
 ]
@@ -35,8 +35,8 @@ STATEMENTS = [
     ("crates/panels/specs/Entries.antt", "EntriesAgree"),
     ("crates/panels/specs/Panels.antt", "PanelsAgree"),
     ("crates/panels/specs/Rows.antt", "SameRows"),
-    ("crates/agreement/specs/Plans.antt", "SameByValue"),
-    ("crates/agreement/specs/Fields.antt", "AgreeInFields"),
+    ("crates/plan_agreement/specs/Plans.antt", "SameByValue"),
+    ("crates/plan_agreement/specs/Fields.antt", "AgreeInFields"),
     ("crates/strip_laws/specs/Nine.antt", "NoneBefore"),
     ("crates/strip_laws/specs/Nine.antt", "Nine"),
     ("crates/starred/specs/Starred.antt", "Starred"),

@@ -3,18 +3,18 @@ use mathlib.Core.Path.{◌≡◌, refl}
 use mathlib.Core.List.{List, [], ◌∷◌}
 use Prim.Native.Nat.{ℕ}
 use lib.Ieee.{lt, add, sub, mul, div, of_int, of_bits}
-use Rattle.floats.specs.Order.{larger, smaller}
-use Rattle.floats.specs.Whole.{whole}
-use Rattle.geometry.specs.declared.Rect.{Rect}
-use Rattle.geometry.specs.Boxes.{positive_area}
-use Rattle.affine.specs.declared.Affine.{Affine}
-use Rattle.affine.specs.Affines.{bounding_box, transform_rect_bbox}
-use Rattle.commands.specs.declared.Join.TheVariants as J
-use Rattle.commands.specs.declared.Cap.TheVariants as C
-use Rattle.commands.specs.declared.DrawCommand.TheVariants.{FillPath, StrokePath}
-use Rattle.commands.specs.Strokes.{stroke_bounds_inflation}
-use Rattle.commands.specs.Bounds.{Command, clip_from, bounds}
-use Rattle.differences.specs.Differences.{with_area, rect_difference, rect_symmetric_difference}
+use Rattle.base_floats.specs.Order.{larger, smaller}
+use Rattle.base_floats.specs.Whole.{whole}
+use Rattle.kurbo_geometry.specs.declared.Rect.{Rect}
+use Rattle.kurbo_geometry.specs.Boxes.{positive_area}
+use Rattle.kurbo_affine.specs.declared.Affine.{Affine}
+use Rattle.kurbo_affine.specs.Affines.{bounding_box, transform_rect_bbox}
+use Rattle.display_list_commands.specs.declared.Join.TheVariants as J
+use Rattle.display_list_commands.specs.declared.Cap.TheVariants as C
+use Rattle.display_list_commands.specs.declared.DrawCommand.TheVariants.{FillPath, StrokePath}
+use Rattle.display_list_commands.specs.Strokes.{stroke_bounds_inflation}
+use Rattle.display_list_commands.specs.Bounds.{Command, clip_from, bounds}
+use Rattle.display_list_differences.specs.Differences.{with_area, rect_difference, rect_symmetric_difference}
 
 abbrev box : ℕ → ℕ → ℕ → ℕ → Rect
 box a b c d = record { x0 = whole a; y0 = whole b; x1 = whole c; y1 = whole d }

@@ -9,15 +9,15 @@ use lib.ListN.{length, take, set, length-set, length-append}
 use lib.Seq.{take_at}
 use lib.Ieee.{Float}
 use borrow.Author.Tests.{le-leb, ne_eqb}
-use Rattle.lists.specs.Pick.{pick}
-use Rattle.lists.proofs.Picks.{pick_true, pick_false}
-use Rattle.geometry.specs.declared.Rect.{Rect}
-use Rattle.affine.specs.Affines.{transform_rect_bbox}
-use Rattle.commands.specs.declared.Glyph.{Glyph}
-use Rattle.commands.specs.declared.DrawCommand.{DrawCommand}
-use Rattle.commands.specs.Bounds.{transform_of, clipped, glyph_bounds}
-use Rattle.clips.specs.Chains.{clip_rect, clip_at, below_at, chain, Clips, put_clip, Room}
-use Rattle.clips.proofs.Chaining.{clip_rect_is, chain_none, chain_step, put_kept, put_chain, put_clips, no_clips, length_clip}
+use Rattle.base_lists.specs.Pick.{pick}
+use Rattle.base_lists.proofs.Picks.{pick_true, pick_false}
+use Rattle.kurbo_geometry.specs.declared.Rect.{Rect}
+use Rattle.kurbo_affine.specs.Affines.{transform_rect_bbox}
+use Rattle.display_list_commands.specs.declared.Glyph.{Glyph}
+use Rattle.display_list_commands.specs.declared.DrawCommand.{DrawCommand}
+use Rattle.display_list_commands.specs.Bounds.{transform_of, clipped, glyph_bounds}
+use Rattle.display_list_clips.specs.Chains.{clip_rect, clip_at, below_at, chain, Clips, put_clip, Room}
+use Rattle.display_list_clips.proofs.Chaining.{clip_rect_is, chain_none, chain_step, put_kept, put_chain, put_clips, no_clips, length_clip}
 use Rattle.display_list.specs.declared.ListState.{ListState}
 use Rattle.display_list.specs.Lists.{clip_room, pushed_clip, clip_boxes, clip_numbers, popped_clip, open_rect, window_glyph_bounds}
 use Rattle.display_list.proofs.Rooms.{fits_clip}

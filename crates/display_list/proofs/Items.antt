@@ -7,11 +7,11 @@ use native.Mathlib.Omega.{arith}
 use lib.ListN.{length, set, length-set}
 use lib.Seq.{get_or-set_same, get_or-set_other}
 use lib.Ieee.{Float}
-use Rattle.lists.specs.Pick.{pick}
-use Rattle.lists.proofs.Picks.{pick_true}
-use Rattle.geometry.specs.declared.Rect.{Rect}
-use Rattle.rect_words.specs.Words.{put_rect, box_at}
-use Rattle.rect_words.proofs.Stores.{length_put, rect_same, rect_before}
+use Rattle.base_lists.specs.Pick.{pick}
+use Rattle.base_lists.proofs.Picks.{pick_true}
+use Rattle.kurbo_geometry.specs.declared.Rect.{Rect}
+use Rattle.base_rect_words.specs.Words.{put_rect, box_at}
+use Rattle.base_rect_words.proofs.Stores.{length_put, rect_same, rect_before}
 use Rattle.display_list.specs.declared.ListState.{ListState}
 use Rattle.display_list.specs.Lists.{command_room, put_item, item_words, item_boxes, offset_at, clip_number_at}
 use Rattle.display_list.proofs.Rooms.{fits_command}

@@ -9,7 +9,7 @@ use lib.ListN.{length}
 use lib.Ieee.{Float}
 use borrow.Author.Tests.{ltb-true, leb-true, lt-ltb, le-leb}
 use Rattle.std.proofs.lemmas.Bool.{and_parts, and_from}
-use Rattle.clips.specs.Chains.{Room}
+use Rattle.display_list_clips.specs.Chains.{Room}
 use Rattle.display_list.specs.Lists.{clip_room, command_room}
 
 pub clip_fits : (n x : ℕ) (bs : List Float) (ns : List ℕ) → clip_room n x (length bs) (length ns) ≡ true → Room n x bs ns

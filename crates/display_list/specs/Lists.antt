@@ -1,11 +1,11 @@
 -- The state of a display list and its words in lent space, step by step. A step counts on where there is no room: what the words hold then is never asked for.
 use Rattle.std.specs.Prelude.{Bool, ◌&&◌, List, ℕ, ◌+◌, ◌-◌, ◌*◌, ◌/◌, eqb, leb, ltb, length, get_or, set, Float}
-use Rattle.lists.specs.Pick.{pick}
-use Rattle.geometry.specs.declared.Rect.{Rect}
-use Rattle.rect_words.specs.Words.{put_rect}
-use Rattle.affine.specs.declared.Affine.{Affine}
-use Rattle.affine.specs.Affines.{transform_rect_bbox}
-use Rattle.clips.specs.Chains.{below_at, clip_rect, put_clip}
+use Rattle.base_lists.specs.Pick.{pick}
+use Rattle.kurbo_geometry.specs.declared.Rect.{Rect}
+use Rattle.base_rect_words.specs.Words.{put_rect}
+use Rattle.kurbo_affine.specs.declared.Affine.{Affine}
+use Rattle.kurbo_affine.specs.Affines.{transform_rect_bbox}
+use Rattle.display_list_clips.specs.Chains.{below_at, clip_rect, put_clip}
 use Rattle.display_list.specs.declared.ListState.{ListState}
 
 -- ---- clips: eight words of boxes and one number each

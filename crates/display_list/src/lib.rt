@@ -5,8 +5,8 @@
 ghost use Rattle.std.specs.Prelude.{◌≡◌, ◌*◌, ◌^◌, ◌≤◌, ◌<◌, length};
 ghost use Rattle.display_list.specs.Lists as Lists;
 
-use affine::Affine;
-use geometry::Rect;
+use kurbo_affine::Affine;
+use kurbo_geometry::Rect;
 
 // How many clips and commands were pushed, the number of the innermost open clip (0 is none, as in `clips`), and how many
 // clips are open.
@@ -24,7 +24,7 @@ pub fn window_glyph_bounds(boxes: &[f64], number: u64, transform: Affine, bounds
     requires { 8 * number ≤ length boxes.now }
     ensures { result ≡ Lists.window_glyph_bounds boxes.now number transform bounds }
 {
-    clips::clip_rect(boxes, number, transform.transform_rect_bbox(bounds))
+    display_list_clips::clip_rect(boxes, number, transform.transform_rect_bbox(bounds))
 }
 
 impl ListState {
@@ -50,7 +50,7 @@ impl ListState {
         ensures { result ≡ Lists.open_rect self boxes.now rect }
     {
         if self.top as usize <= boxes.len() / 8 {
-            return clips::clip_rect(boxes, self.top, rect);
+            return display_list_clips::clip_rect(boxes, self.top, rect);
         }
         rect
     }
@@ -64,7 +64,7 @@ impl ListState {
         ensures under { below.new ≡ Lists.clip_numbers self boxes.old below.old }
     {
         if self.clip_room(boxes, below) {
-            clips::put_clip(boxes, below, self.clips, self.top, rect);
+            display_list_clips::put_clip(boxes, below, self.clips, self.top, rect);
         }
         self.clips += 1;
         self.top = self.clips as u64;
@@ -109,7 +109,7 @@ impl ListState {
             let m = self.commands;
             items[2 * m] = offset as u64;
             items[2 * m + 1] = self.top;
-            rect_words::put_rect(item_boxes, 4 * m, bounds);
+            base_rect_words::put_rect(item_boxes, 4 * m, bounds);
         }
         self.commands += 1;
         self

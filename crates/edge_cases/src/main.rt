@@ -1,9 +1,9 @@
 // Runs document 01's edges through the code that there is, and prints what it answers, a line each.
 #![tactic(auto)]
 
-use device::DeviceRegion;
-use geometry::Rect;
-use rows::Rows;
+use compositor_device::DeviceRegion;
+use compositor_rows::Rows;
+use kurbo_geometry::Rect;
 use std::io;
 
 // A region by its numbers, or the word nothing.

@@ -7,32 +7,32 @@ use Prim.Native.Nat.{ℕ, ◌+◌, ◌≤◌, ◌<◌}
 use native.Mathlib.Omega.{arith}
 use lib.ListN.{length, drop, get_or, length-append, get_or-append}
 use borrow.Author.Tests.{le-ltb}
-use Rattle.refusals.specs.Table.{refusal}
+use Rattle.base_refusals.specs.Table.{refusal}
 use Rattle.std.specs.Prelude.{Result, Ok, Err}
-use Rattle.refusals.specs.declared.Fault.TheVariants.{Size}
-use Rattle.refusals.specs.declared.Refusal.{Refusal}
-use Rattle.refusals.specs.Table.{refused}
-use Rattle.lists.proofs.Picks.{pick_cases}
-use Rattle.commands.specs.Bounds.{Command, bounds}
-use Rattle.little_endian.specs.Words.{u32_at}
-use Rattle.little_endian.proofs.Alike.{u32_same}
-use Rattle.rows.specs.Rows.{row_count}
-use Rattle.index_words.specs.Index.{index_words}
-use Rattle.scheduler.specs.Schedule.{schedule}
-use Rattle.changes.specs.Changes.{diff_dirty}
+use Rattle.base_refusals.specs.declared.Fault.TheVariants.{Size}
+use Rattle.base_refusals.specs.declared.Refusal.{Refusal}
+use Rattle.base_refusals.specs.Table.{refused}
+use Rattle.base_lists.proofs.Picks.{pick_cases}
+use Rattle.display_list_commands.specs.Bounds.{Command, bounds}
+use Rattle.base_little_endian.specs.Words.{u32_at}
+use Rattle.base_little_endian.proofs.Alike.{u32_same}
+use Rattle.compositor_rows.specs.Rows.{row_count}
+use Rattle.compositor_index_words.specs.Index.{index_words}
+use Rattle.compositor_scheduler.specs.Schedule.{schedule}
+use Rattle.display_list_changes.specs.Changes.{diff_dirty}
 use Rattle.strip.specs.declared.Cursor.{Cursor}
 use Rattle.strip.specs.Reading.{read_strip, commands_of}
 use Rattle.strip_laws.specs.Limits.{WhereRead}
-use Rattle.screen.specs.declared.Screen.{Screen}
-use Rattle.screen.specs.Sizes.{fits}
-use Rattle.frame.specs.declared.Entry.{Entry}
-use Rattle.frame.specs.declared.Strips.{Strips}
-use Rattle.frame.specs.Frame.{sizes_at, header_of, old_of, strips_of, old_commands}
-use Rattle.frame.proofs.Checks.{strips_told}
-use Rattle.plans.specs.declared.Plan.{Plan}
-use Rattle.plans.specs.Drafts.{Outcome, refuses, drafted, rects_since, on_strips, on_header, outcome}
-use Rattle.plans.specs.Space.{Slices, Lent, lent_of}
-use Rattle.plans.specs.Answers.{answer_of, accepted, published, index_words_of}
+use Rattle.compositor_screen.specs.declared.Screen.{Screen}
+use Rattle.compositor_screen.specs.Sizes.{fits}
+use Rattle.strip_frame.specs.declared.Entry.{Entry}
+use Rattle.strip_frame.specs.declared.Strips.{Strips}
+use Rattle.strip_frame.specs.Frame.{sizes_at, header_of, old_of, strips_of, old_commands}
+use Rattle.strip_frame.proofs.Checks.{strips_told}
+use Rattle.plan_answers.specs.declared.Plan.{Plan}
+use Rattle.plan_answers.specs.Drafts.{Outcome, refuses, drafted, rects_since, on_strips, on_header, outcome}
+use Rattle.plan_answers.specs.Space.{Slices, Lent, lent_of}
+use Rattle.plan_answers.specs.Answers.{answer_of, accepted, published, index_words_of}
 use Rattle.panels.specs.Entries.{entry_after, strips_after, call_of, drafted_regions, entries, EntriesAgree}
 use Rattle.panels.proofs.Plans.{boxes_since, GoodLast, Call, Plans}
 use Rattle.panels.proofs.Panels.{plans_agree}

@@ -4,17 +4,17 @@ use mathlib.Core.Path.{◌≡◌, refl}
 use mathlib.Core.Bool.{true}
 use mathlib.Core.List.{List, ◌++◌, map}
 use Prim.Native.Nat.{ℕ}
-use Rattle.lists.specs.Members.{All}
-use Rattle.commands.specs.Bounds.{Command, bounds}
-use Rattle.rows.specs.Rows.{row_count}
-use Rattle.index_words.specs.Index.{index_words}
-use Rattle.scheduler.specs.Schedule.{schedule}
-use Rattle.painting.proofs.Alike.{Sound}
+use Rattle.base_lists.specs.Members.{All}
+use Rattle.display_list_commands.specs.Bounds.{Command, bounds}
+use Rattle.compositor_rows.specs.Rows.{row_count}
+use Rattle.compositor_index_words.specs.Index.{index_words}
+use Rattle.compositor_scheduler.specs.Schedule.{schedule}
+use Rattle.panels_painting.proofs.Alike.{Sound}
 use Rattle.panels.specs.Panels.{Planner, PanelsAgree}
 use Rattle.panels.proofs.Plans.{boxes_since, Plans}
 use Rattle.panels.proofs.Panels.{plans_agree}
-use Rattle.screen.specs.declared.Screen.{Screen}
-use Rattle.screen.specs.Sizes.{fits}
+use Rattle.compositor_screen.specs.declared.Screen.{Screen}
+use Rattle.compositor_screen.specs.Sizes.{fits}
 
 record Listed : Type 0 where
   commands : List Command

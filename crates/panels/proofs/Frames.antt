@@ -3,12 +3,12 @@ use mathlib.Core.Path.{◌≡◌, sym, ◌∙◌}
 use mathlib.Core.Bool.{true, false, true≢false}
 use mathlib.Core.List.{List, [], ◌∷◌}
 use mathlib.Core.Option.{Option, some}
-use Rattle.lists.specs.Members.{All}
-use Rattle.lists.proofs.Members.{in_all}
-use Rattle.commands.specs.Bounds.{Command}
-use Rattle.painting.specs.Painters.{Pixel}
+use Rattle.base_lists.specs.Members.{All}
+use Rattle.base_lists.proofs.Members.{in_all}
+use Rattle.display_list_commands.specs.Bounds.{Command}
+use Rattle.panels_painting.specs.Painters.{Pixel}
 use Rattle.panels.specs.Panels.{Planner, Frame, is_accepted, Used, now, later, OrderedBy, Orders, paint_whole, State, repaint, step}
-use Rattle.screen.specs.declared.Screen.{Screen}
+use Rattle.compositor_screen.specs.declared.Screen.{Screen}
 
 pub used_none : (P : Planner) (last : Option P.Strip) (Q : Command → Type 0) (c : Command) → Used P last [] c → Q c
 used_none P last Q c u = elim u [ ]

@@ -10,31 +10,31 @@ use native.Mathlib.Omega.{arith}
 use lib.Dec.{leb, ltb}
 use lib.ListN.{get_or}
 use borrow.Author.Tests.{le-leb, lt-ltb}
-use Rattle.lists.specs.Pick.{pick}
-use Rattle.lists.specs.Members.{All, Any, In}
-use Rattle.lists.proofs.Members.{all_map, all_of, any_find, in_all, pairs_with}
+use Rattle.base_lists.specs.Pick.{pick}
+use Rattle.base_lists.specs.Members.{All, Any, In}
+use Rattle.base_lists.proofs.Members.{all_map, all_of, any_find, in_all, pairs_with}
 use Rattle.std.proofs.lemmas.Bool.{and_from}
-use Rattle.lists.proofs.Bools.{holds, not_both}
-use Rattle.device.specs.declared.DeviceRegion.{DeviceRegion}
-use Rattle.device.specs.Region.{has}
-use Rattle.commands.specs.Bounds.{Command, bounds}
-use Rattle.rows.specs.Rows.{row_count}
-use Rattle.index_words.specs.Index.{index_words}
-use Rattle.index_words.specs.Painting.{paint_all, paint_at}
-use Rattle.candidates.specs.Table.{candidates, refusal}
-use Rattle.scheduler.specs.Schedule.{schedule}
-use Rattle.schedule_laws.specs.Placed.{Covers, Placed, Clear, Schedulable}
-use Rattle.schedule_laws.proofs.AllBands.{row_band, no_share}
-use Rattle.schedule_laws.proofs.Boxes.{has_covers, boxes_schedulable}
-use Rattle.changes.specs.Changes.{diff_dirty}
-use Rattle.painting.specs.Painters.{Pixel, Key, Rules}
-use Rattle.painting.proofs.Alike.{Sound}
-use Rattle.painting.proofs.Schedules.{candidates_answer, uncovered_alike, candidates_paint}
+use Rattle.base_lists.proofs.Bools.{holds, not_both}
+use Rattle.compositor_device.specs.declared.DeviceRegion.{DeviceRegion}
+use Rattle.compositor_device.specs.Region.{has}
+use Rattle.display_list_commands.specs.Bounds.{Command, bounds}
+use Rattle.compositor_rows.specs.Rows.{row_count}
+use Rattle.compositor_index_words.specs.Index.{index_words}
+use Rattle.compositor_index_words.specs.Painting.{paint_all, paint_at}
+use Rattle.compositor_candidates.specs.Table.{candidates, refusal}
+use Rattle.compositor_scheduler.specs.Schedule.{schedule}
+use Rattle.compositor_schedule_laws.specs.Placed.{Covers, Placed, Clear, Schedulable}
+use Rattle.compositor_schedule_laws.proofs.AllBands.{row_band, no_share}
+use Rattle.compositor_schedule_laws.proofs.Boxes.{has_covers, boxes_schedulable}
+use Rattle.display_list_changes.specs.Changes.{diff_dirty}
+use Rattle.panels_painting.specs.Painters.{Pixel, Key, Rules}
+use Rattle.panels_painting.proofs.Alike.{Sound}
+use Rattle.panels_painting.proofs.Schedules.{candidates_answer, uncovered_alike, candidates_paint}
 use Rattle.panels.specs.Panels.{Planner, Frame, Apart, InBand, is_accepted, Used, now, later, OrderedBy, Orders, paint_whole, paint_region, paint_regions, State, start, repaint, step, SamePanels, Planned, Agree, PanelsAgree}
 use Rattle.panels.proofs.Plans.{boxes_since, GoodLast, Call, Plans}
-use Rattle.screen.specs.declared.Screen.{Screen}
-use Rattle.screen.specs.Sizes.{fits}
-use Rattle.screen.proofs.Laws.{sizes_of}
+use Rattle.compositor_screen.specs.declared.Screen.{Screen}
+use Rattle.compositor_screen.specs.Sizes.{fits}
+use Rattle.compositor_screen.proofs.Laws.{sizes_of}
 
 -- ---- a region's pixels, as a test and as a record
 test_covers : (r : DeviceRegion) (p q : ℕ) → has (Some r) p q ≡ true → Covers p q r

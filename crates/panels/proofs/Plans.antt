@@ -4,18 +4,18 @@ use mathlib.Core.Bool.{true}
 use mathlib.Core.List.{List, [], ◌∷◌, ◌++◌, map}
 use mathlib.Core.Option.{Option, none, some}
 use Prim.Native.Nat.{ℕ}
-use Rattle.lists.specs.Members.{All}
-use Rattle.geometry.specs.declared.Rect.{Rect}
-use Rattle.commands.specs.Bounds.{Command, bounds}
-use Rattle.rows.specs.Rows.{row_count}
-use Rattle.index_words.specs.Index.{index_words}
-use Rattle.scheduler.specs.Schedule.{schedule}
-use Rattle.changes.specs.Changes.{diff_dirty}
-use Rattle.painting.proofs.Alike.{Sound}
-use Rattle.plans.specs.Drafts.{screen_rect}
+use Rattle.base_lists.specs.Members.{All}
+use Rattle.kurbo_geometry.specs.declared.Rect.{Rect}
+use Rattle.display_list_commands.specs.Bounds.{Command, bounds}
+use Rattle.compositor_rows.specs.Rows.{row_count}
+use Rattle.compositor_index_words.specs.Index.{index_words}
+use Rattle.compositor_scheduler.specs.Schedule.{schedule}
+use Rattle.display_list_changes.specs.Changes.{diff_dirty}
+use Rattle.panels_painting.proofs.Alike.{Sound}
+use Rattle.plan_answers.specs.Drafts.{screen_rect}
 use Rattle.panels.specs.Panels.{Planner}
-use Rattle.screen.specs.declared.Screen.{Screen}
-use Rattle.screen.specs.Sizes.{fits}
+use Rattle.compositor_screen.specs.declared.Screen.{Screen}
+use Rattle.compositor_screen.specs.Sizes.{fits}
 
 -- what is scheduled: the whole screen at the first frame, then what changed since the last accepted strip
 abbrev pub boxes_since : {S : Type 0} → (S → List Command) → Screen → Option S → S → List Rect

@@ -7,32 +7,32 @@ use Prim.Native.Nat.{ℕ, ◌/◌, ◌<◌}
 use native.Mathlib.Omega.{arith}
 use lib.ListN.{length, drop}
 use Rattle.std.specs.Prelude.{Result, Ok, Err}
-use Rattle.refusals.specs.declared.Refusal.{Refusal}
-use Rattle.lists.specs.Members.{All}
-use Rattle.lists.proofs.Members.{all_map}
-use Rattle.geometry.specs.declared.Rect.{Rect}
-use Rattle.commands.specs.Bounds.{bounds}
-use Rattle.device.specs.declared.DeviceRegion.{DeviceRegion}
-use Rattle.rows.specs.Rows.{row_count}
-use Rattle.index_words.specs.Index.{row_list, index_words}
-use Rattle.candidates.specs.Table.{candidates, refusal}
-use Rattle.candidates.proofs.Plans.{plan_accepted, plan_row}
-use Rattle.scheduler.specs.Schedule.{schedule}
-use Rattle.schedule_laws.specs.Placed.{Placed}
-use Rattle.schedule_laws.proofs.Boxes.{boxes_schedulable}
+use Rattle.base_refusals.specs.declared.Refusal.{Refusal}
+use Rattle.base_lists.specs.Members.{All}
+use Rattle.base_lists.proofs.Members.{all_map}
+use Rattle.kurbo_geometry.specs.declared.Rect.{Rect}
+use Rattle.display_list_commands.specs.Bounds.{bounds}
+use Rattle.compositor_device.specs.declared.DeviceRegion.{DeviceRegion}
+use Rattle.compositor_rows.specs.Rows.{row_count}
+use Rattle.compositor_index_words.specs.Index.{row_list, index_words}
+use Rattle.compositor_candidates.specs.Table.{candidates, refusal}
+use Rattle.compositor_candidates.proofs.Plans.{plan_accepted, plan_row}
+use Rattle.compositor_scheduler.specs.Schedule.{schedule}
+use Rattle.compositor_schedule_laws.specs.Placed.{Placed}
+use Rattle.compositor_schedule_laws.proofs.Boxes.{boxes_schedulable}
 use Rattle.strip.specs.Reading.{commands_of}
-use Rattle.frame.specs.declared.Strips.{Strips}
-use Rattle.frame.specs.declared.Entry.{Entry}
-use Rattle.frame.specs.Frame.{sizes_at, strips_of, old_commands}
-use Rattle.plans.specs.Drafts.{Outcome, refuses, drafted, rects_since, on_strips, outcome}
-use Rattle.plans.specs.Space.{Lent, lent_of}
-use Rattle.plans.specs.Answers.{answer_of, accepted, index_words_of}
+use Rattle.strip_frame.specs.declared.Strips.{Strips}
+use Rattle.strip_frame.specs.declared.Entry.{Entry}
+use Rattle.strip_frame.specs.Frame.{sizes_at, strips_of, old_commands}
+use Rattle.plan_answers.specs.Drafts.{Outcome, refuses, drafted, rects_since, on_strips, outcome}
+use Rattle.plan_answers.specs.Space.{Lent, lent_of}
+use Rattle.plan_answers.specs.Answers.{answer_of, accepted, index_words_of}
 use Rattle.panels.specs.Entries.{entry_after, strips_after, call_of, drafted_regions}
 use Rattle.panels.specs.Rows.{RowAlike, SameRows}
 use Rattle.panels.proofs.Entries.{by_header, words_behind}
-use Rattle.screen.specs.declared.Screen.{Screen}
-use Rattle.screen.specs.Sizes.{fits}
-use Rattle.screen.proofs.Laws.{sizes_of}
+use Rattle.compositor_screen.specs.declared.Screen.{Screen}
+use Rattle.compositor_screen.specs.Sizes.{fits}
+use Rattle.compositor_screen.proofs.Laws.{sizes_of}
 
 module _ (header : List ℕ) (twelve : length header ≡ 12) where
   abbrev screen : Screen

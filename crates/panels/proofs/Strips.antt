@@ -6,20 +6,20 @@ use Prim.Native.Nat.{ℕ, ◌+◌, ◌≤◌}
 use native.Mathlib.Omega.{arith}
 use lib.ListN.{length, length-append}
 use Rattle.std.specs.Prelude.{Result, Ok, Err}
-use Rattle.refusals.specs.declared.Refusal.{Refusal}
-use Rattle.lists.specs.Members.{All}
-use Rattle.lists.proofs.Members.{all_map}
-use Rattle.geometry.proofs.Edges.{Edges, Ordered}
-use Rattle.commands.specs.Bounds.{Command, bounds, glyph_bounds}
-use Rattle.commands.proofs.Clips.{Upright}
-use Rattle.commands.proofs.Finite.{Number, numbers_ordered}
+use Rattle.base_refusals.specs.declared.Refusal.{Refusal}
+use Rattle.base_lists.specs.Members.{All}
+use Rattle.base_lists.proofs.Members.{all_map}
+use Rattle.kurbo_geometry.proofs.Edges.{Edges, Ordered}
+use Rattle.display_list_commands.specs.Bounds.{Command, bounds, glyph_bounds}
+use Rattle.display_list_commands.proofs.Clips.{Upright}
+use Rattle.display_list_commands.proofs.Finite.{Number, numbers_ordered}
 use Rattle.strip.specs.declared.Cursor.{Cursor}
 use Rattle.strip.specs.Reading.{read_strip, commands_of}
 use Rattle.strip_laws.specs.Limits.{WhereRead, Passed}
 use Rattle.strip_laws.proofs.Limits.{strip_passed}
 use Rattle.strip_laws.proofs.Boxes.{Fine, strip_fine}
 use Rattle.strip_laws.proofs.Fronts.{AnswerAlike, front_read, front_list, behind_answer, behind_list}
-use Rattle.painting.proofs.Alike.{Sound}
+use Rattle.panels_painting.proofs.Alike.{Sound}
 
 -- ---- P3
 fine_sound : (c : Command) → Fine c → Sound c

@@ -1,15 +1,15 @@
--- Demand 3 for the two entries: the planner of crate `plans` under one header. A call's numbers, regions and index words are those of the entries'
+-- Demand 3 for the two entries: the planner of crate `plan_answers` under one header. A call's numbers, regions and index words are those of the entries'
 -- contracts, which speak of the same definitions.
 use Rattle.std.specs.Prelude.{◌≡◌, List, [], ◌++◌, ℕ, length}
 use Rattle.std.proofs.Math.Option.{Option, none, some}
-use Rattle.frame.specs.declared.Entry.{Entry}
-use Rattle.frame.specs.declared.Entry.TheVariants.{First, Next}
-use Rattle.frame.specs.Frame.{header_length, sizes_at}
-use Rattle.device.specs.declared.DeviceRegion.{DeviceRegion}
+use Rattle.strip_frame.specs.declared.Entry.{Entry}
+use Rattle.strip_frame.specs.declared.Entry.TheVariants.{First, Next}
+use Rattle.strip_frame.specs.Frame.{header_length, sizes_at}
+use Rattle.compositor_device.specs.declared.DeviceRegion.{DeviceRegion}
 use Rattle.strip.specs.Reading.{commands_of}
-use Rattle.plans.specs.Drafts.{Outcome, refuses, drafted, outcome}
-use Rattle.plans.specs.Space.{Slices, lent_of}
-use Rattle.plans.specs.Answers.{answer_of, accepted, index_words_of, published}
+use Rattle.plan_answers.specs.Drafts.{Outcome, refuses, drafted, outcome}
+use Rattle.plan_answers.specs.Space.{Slices, lent_of}
+use Rattle.plan_answers.specs.Answers.{answer_of, accepted, index_words_of, published}
 use Rattle.panels.specs.Panels.{Planner, PanelsAgree}
 
 -- "Until one is accepted, the first-frame entry gets header and strip; then the other entry gets header, last accepted strip and strip."

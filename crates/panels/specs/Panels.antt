@@ -1,17 +1,17 @@
 -- The two panels of document 01: frames, what each panel shows after them, and what is claimed of both. Painters and their rules are those of
--- crate `painting`, `candidates` and its refusals those of crate `candidates`.
+-- crate `panels_painting`, `candidates` and its refusals those of crate `compositor_candidates`.
 use Rattle.std.specs.Prelude.{◌≡◌, Bool, true, List, [], ◌∷◌, ℕ, ◌+◌, ◌-◌, ◌/◌, get_or, Some}
 use Rattle.std.proofs.Math.Option.{Option, none, some}
-use Rattle.lists.specs.Pick.{pick}
-use Rattle.lists.specs.Members.{All, Pairs, In}
-use Rattle.device.specs.declared.DeviceRegion.{DeviceRegion}
-use Rattle.device.specs.Region.{has}
-use Rattle.commands.specs.Bounds.{Command}
-use Rattle.screen.specs.declared.Screen.{Screen}
-use Rattle.schedule_laws.specs.Placed.{Covers}
-use Rattle.index_words.specs.Painting.{paint_all, paint_at}
-use Rattle.candidates.specs.Table.{candidates, refusal}
-use Rattle.painting.specs.Painters.{Pixel, Key, Rules, GlyphRule}
+use Rattle.base_lists.specs.Pick.{pick}
+use Rattle.base_lists.specs.Members.{All, Pairs, In}
+use Rattle.compositor_device.specs.declared.DeviceRegion.{DeviceRegion}
+use Rattle.compositor_device.specs.Region.{has}
+use Rattle.display_list_commands.specs.Bounds.{Command}
+use Rattle.compositor_screen.specs.declared.Screen.{Screen}
+use Rattle.compositor_schedule_laws.specs.Placed.{Covers}
+use Rattle.compositor_index_words.specs.Painting.{paint_all, paint_at}
+use Rattle.compositor_candidates.specs.Table.{candidates, refusal}
+use Rattle.panels_painting.specs.Painters.{Pixel, Key, Rules, GlyphRule}
 
 -- ---- frames
 -- The two entries under one header, call by call: "Until one is accepted, the first-frame entry gets header and strip; then the other entry gets

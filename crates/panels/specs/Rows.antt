@@ -2,12 +2,12 @@
 -- all the words that were lent for them, the plan program and the Rust crate only as many as the plan counts.
 use Rattle.std.specs.Prelude.{◌≡◌, true, List, ◌++◌, ℕ, length}
 use Rattle.std.proofs.Math.Option.{Option}
-use Rattle.lists.specs.Members.{All}
-use Rattle.frame.specs.Frame.{header_length, sizes_at}
-use Rattle.device.specs.declared.DeviceRegion.{DeviceRegion}
-use Rattle.candidates.specs.Table.{candidates, refusal}
-use Rattle.plans.specs.Space.{Slices, lent_of}
-use Rattle.plans.specs.Answers.{answer_of, accepted, index_words_of}
+use Rattle.base_lists.specs.Members.{All}
+use Rattle.strip_frame.specs.Frame.{header_length, sizes_at}
+use Rattle.compositor_device.specs.declared.DeviceRegion.{DeviceRegion}
+use Rattle.compositor_candidates.specs.Table.{candidates, refusal}
+use Rattle.plan_answers.specs.Space.{Slices, lent_of}
+use Rattle.plan_answers.specs.Answers.{answer_of, accepted, index_words_of}
 use Rattle.panels.specs.Entries.{call_of, entries}
 
 -- under a header, a region has its row in some words, and it is the row that it has in others

@@ -6,17 +6,17 @@ use mathlib.Core.Option.{Option}
 use Prim.Native.Nat.{ℕ}
 use lib.ListN.{length, drop}
 use Rattle.std.specs.Prelude.{Result}
-use Rattle.refusals.specs.declared.Fault.TheVariants.{NoRoom}
-use Rattle.refusals.specs.declared.Refusal.{Refusal}
-use Rattle.refusals.specs.Table.{refused}
-use Rattle.lists.specs.Pick.{pick}
-use Rattle.scheduler.specs.Schedule.{words_of_regions, regions_to}
-use Rattle.scheduler.proofs.Reading.{regions_back}
-use Rattle.frame.specs.declared.Entry.{Entry}
-use Rattle.plans.specs.declared.Plan.{Plan}
-use Rattle.plans.specs.Drafts.{Draft, Outcome, refuses, drafted, outcome}
-use Rattle.plans.specs.Space.{Slices, Lent, lent_of}
-use Rattle.plans.specs.Answers.{items_fit, draft_fits, counts, answer_of, accepted, counts_of, region_words_of, index_words_of, published}
+use Rattle.base_refusals.specs.declared.Fault.TheVariants.{NoRoom}
+use Rattle.base_refusals.specs.declared.Refusal.{Refusal}
+use Rattle.base_refusals.specs.Table.{refused}
+use Rattle.base_lists.specs.Pick.{pick}
+use Rattle.compositor_scheduler.specs.Schedule.{words_of_regions, regions_to}
+use Rattle.compositor_scheduler.proofs.Reading.{regions_back}
+use Rattle.strip_frame.specs.declared.Entry.{Entry}
+use Rattle.plan_answers.specs.declared.Plan.{Plan}
+use Rattle.plan_answers.specs.Drafts.{Draft, Outcome, refuses, drafted, outcome}
+use Rattle.plan_answers.specs.Space.{Slices, Lent, lent_of}
+use Rattle.plan_answers.specs.Answers.{items_fit, draft_fits, counts, answer_of, accepted, counts_of, region_words_of, index_words_of, published}
 use Rattle.planner.specs.Calls.{Promise}
 use Rattle.panels.specs.Entries.{call_of, drafted_regions}
 use Rattle.panels_calls.specs.Calls.{Called, CalledAs}

@@ -1,12 +1,12 @@
 -- A call of an entry beside the planner that the statement about the panels speaks of (`entries` of crate `panels`).
-use Rattle.refusals.specs.declared.Refusal.{Refusal}
+use Rattle.base_refusals.specs.declared.Refusal.{Refusal}
 use Rattle.std.specs.Prelude.{◌≡◌, true, List, ◌++◌, ℕ, Result}
 use Rattle.std.proofs.Math.Option.{Option}
-use Rattle.scheduler.specs.Schedule.{regions_to}
-use Rattle.frame.specs.declared.Entry.{Entry}
-use Rattle.plans.specs.declared.Plan.{Plan}
-use Rattle.plans.specs.Space.{Slices}
-use Rattle.plans.specs.Answers.{accepted, counts_of}
+use Rattle.compositor_scheduler.specs.Schedule.{regions_to}
+use Rattle.strip_frame.specs.declared.Entry.{Entry}
+use Rattle.plan_answers.specs.declared.Plan.{Plan}
+use Rattle.plan_answers.specs.Space.{Slices}
+use Rattle.plan_answers.specs.Answers.{accepted, counts_of}
 use Rattle.panels.specs.Entries.{entry_after, strips_after, entries}
 
 -- What a call hands back and leaves in its slices is what that planner says for the header, the last accepted strip and the strip: whether it is accepted, the

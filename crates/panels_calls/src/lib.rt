@@ -5,9 +5,9 @@
 ghost use Rattle.planner.specs.Calls.{slices};
 ghost use Rattle.panels_calls.specs.Calls.{CalledAs};
 
+use base_refusals::Refusal;
+use plan_answers::Plan;
 use planner::Entry;
-use plans::Plan;
-use refusals::Refusal;
 
 // A first frame, header and strip, or a frame after an accepted one: header, last accepted strip and strip. Any bytes and any lent
 // space will do. The slices are parameters as those of `planner::plan` are.

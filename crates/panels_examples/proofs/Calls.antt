@@ -3,29 +3,29 @@ use mathlib.Core.Path.{◌≡◌, refl}
 use mathlib.Core.List.{List, [], ◌∷◌, ◌++◌}
 use Prim.Native.Nat.{ℕ}
 use lib.Ieee.{of_int, of_bits, to_bits, neg, eq, lt, add, mul}
-use Rattle.refusals.specs.declared.Fault.TheVariants.{CutOff}
-use Rattle.refusals.specs.Table.{refusal}
-use Rattle.affine.specs.Affines.{bounding_box, transform_rect_bbox, finite_point, all_finite, bound_finite, try_transform}
-use Rattle.bands.specs.Bands.{regions_of, cut_to, insert_by, sort_by, join_to, join, merge_overlapping}
-use Rattle.changes.specs.Changes.{changed_glyphs, changed_at, change, changed_bounds, diff_dirty}
-use Rattle.commands.specs.Bounds.{united_from, bounds, glyph_bounds}
-use Rattle.device.specs.Region.{between, intersect, union}
-use Rattle.equality.specs.Drawings.{same_fill, same_run, run_alike, same_drawing, fills_alike, runs_alike, equal, runs_alike_clipped}
-use Rattle.floats.specs.Next.{next_down}
-use Rattle.floats.specs.Order.{larger, smaller}
-use Rattle.floats.specs.Whole.{whole, floor, ceil}
-use Rattle.screen.specs.Sizes.{screen, size_fits}
-use Rattle.frame.specs.Frame.{header_of, ended, strips_of}
-use Rattle.geometry.specs.Boxes.{positive_area, same_edges}
-use Rattle.index_words.specs.Index.{stands_in, places, row_list, entries_to, start_of, starts_to, layout, index_words}
-use Rattle.little_endian.specs.Words.{u16_at, u32_at, u64_at, finite_or}
-use Rattle.operand_checks.specs.Operands.{finite_from, finite_run, finite_glyph, operands_at}
-use Rattle.operand_equality.specs.Operands.{same_affine, same_bits, same_glyph, equal_glyph, same_path, equal_glyphs, same_clips}
-use Rattle.scheduler.specs.Schedule.{bands_to}
+use Rattle.base_refusals.specs.declared.Fault.TheVariants.{CutOff}
+use Rattle.base_refusals.specs.Table.{refusal}
+use Rattle.kurbo_affine.specs.Affines.{bounding_box, transform_rect_bbox, finite_point, all_finite, bound_finite, try_transform}
+use Rattle.compositor_bands.specs.Bands.{regions_of, cut_to, insert_by, sort_by, join_to, join, merge_overlapping}
+use Rattle.display_list_changes.specs.Changes.{changed_glyphs, changed_at, change, changed_bounds, diff_dirty}
+use Rattle.display_list_commands.specs.Bounds.{united_from, bounds, glyph_bounds}
+use Rattle.compositor_device.specs.Region.{between, intersect, union}
+use Rattle.display_list_equality.specs.Drawings.{same_fill, same_run, run_alike, same_drawing, fills_alike, runs_alike, equal, runs_alike_clipped}
+use Rattle.base_floats.specs.Next.{next_down}
+use Rattle.base_floats.specs.Order.{larger, smaller}
+use Rattle.base_floats.specs.Whole.{whole, floor, ceil}
+use Rattle.compositor_screen.specs.Sizes.{screen, size_fits}
+use Rattle.strip_frame.specs.Frame.{header_of, ended, strips_of}
+use Rattle.kurbo_geometry.specs.Boxes.{positive_area, same_edges}
+use Rattle.compositor_index_words.specs.Index.{stands_in, places, row_list, entries_to, start_of, starts_to, layout, index_words}
+use Rattle.base_little_endian.specs.Words.{u16_at, u32_at, u64_at, finite_or}
+use Rattle.strip_operand_checks.specs.Operands.{finite_from, finite_run, finite_glyph, operands_at}
+use Rattle.display_list_operand_equality.specs.Operands.{same_affine, same_bits, same_glyph, equal_glyph, same_path, equal_glyphs, same_clips}
+use Rattle.compositor_scheduler.specs.Schedule.{bands_to}
 use Rattle.strip.specs.Reading.{read_from, list_from, commands_of}
 use Rattle.strip.specs.Steps.{due_fits, draw_step, run_step, last_step, glyph_step, effect_of, step_at}
 use Rattle.strip_format.specs.Format.{length_of, command_at, glyphs_from}
-use Rattle.plans.specs.Drafts.{Items, Draft, refuses, drafted, screen_rect, outcome, first_outcome, next_outcome}
+use Rattle.plan_answers.specs.Drafts.{Items, Draft, refuses, drafted, screen_rect, outcome, first_outcome, next_outcome}
 use Rattle.panels_examples.specs.Pages.{box, bytes, glyph_bytes, strip, header, page_one, page_two}
 use Rattle.panels_examples.specs.Frames.{region, upper, lower}
 

@@ -7,27 +7,27 @@ use native.Mathlib.Omega.{arith}
 use lib.Dec.{T}
 use lib.Ieee.Fits.{and_l, and_r}
 use lib.Ieee.{neg, fits, eq, lt, add, mul, of_int}
-use Rattle.lists.specs.Members.{All}
-use Rattle.ieee.proofs.Rank.{ordered, whole_ordered}
-use Rattle.ieee.proofs.Values.{add_same, same_value}
-use Rattle.floats.specs.Order.{larger, smaller}
-use Rattle.floats.specs.Whole.{whole}
-use Rattle.geometry.specs.declared.Rect.{Rect}
-use Rattle.geometry.specs.Boxes.{same_edges}
-use Rattle.geometry.specs.Pixels.{touches}
-use Rattle.geometry.proofs.Edges.{Ordered}
-use Rattle.geometry.proofs.Values.{touches_same}
-use Rattle.affine.specs.Affines.{bounding_box, transform_rect_bbox}
-use Rattle.commands.specs.declared.Glyph.{Glyph}
-use Rattle.commands.specs.Bounds.{Command, united_from, bounds, glyph_bounds}
-use Rattle.commands.proofs.Values.{Entries}
-use Rattle.operand_equality.specs.Operands.{same_glyph}
-use Rattle.equality.proofs.Values.{Good}
-use Rattle.painting.specs.Painters.{Key, key_of, same_key, Rules}
-use Rattle.painting.proofs.Keys.{key_parts}
-use Rattle.painting.proofs.Inside.{Inside, inside_touches}
-use Rattle.painting.proofs.InkedRules.{InkWithin, Inked, inked_rules}
-use Rattle.painting.proofs.GlyphRules.{every, one_box, one_box_each}
+use Rattle.base_lists.specs.Members.{All}
+use Rattle.base_ieee.proofs.Rank.{ordered, whole_ordered}
+use Rattle.base_ieee.proofs.Values.{add_same, same_value}
+use Rattle.base_floats.specs.Order.{larger, smaller}
+use Rattle.base_floats.specs.Whole.{whole}
+use Rattle.kurbo_geometry.specs.declared.Rect.{Rect}
+use Rattle.kurbo_geometry.specs.Boxes.{same_edges}
+use Rattle.kurbo_geometry.specs.Pixels.{touches}
+use Rattle.kurbo_geometry.proofs.Edges.{Ordered}
+use Rattle.kurbo_geometry.proofs.Values.{touches_same}
+use Rattle.kurbo_affine.specs.Affines.{bounding_box, transform_rect_bbox}
+use Rattle.display_list_commands.specs.declared.Glyph.{Glyph}
+use Rattle.display_list_commands.specs.Bounds.{Command, united_from, bounds, glyph_bounds}
+use Rattle.display_list_commands.proofs.Values.{Entries}
+use Rattle.display_list_operand_equality.specs.Operands.{same_glyph}
+use Rattle.display_list_equality.proofs.Values.{Good}
+use Rattle.panels_painting.specs.Painters.{Key, key_of, same_key, Rules}
+use Rattle.panels_painting.proofs.Keys.{key_parts}
+use Rattle.panels_painting.proofs.Inside.{Inside, inside_touches}
+use Rattle.panels_painting.proofs.InkedRules.{InkWithin, Inked, inked_rules}
+use Rattle.panels_painting.proofs.GlyphRules.{every, one_box, one_box_each}
 use Rattle.panels_examples.specs.Pages.{box, moved, cell, line, page_one, page_two}
 use Rattle.panels_examples.specs.Frames.{ink, paint, mark}
 

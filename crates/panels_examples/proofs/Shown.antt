@@ -7,17 +7,17 @@ use Prim.Native.Nat.{ℕ}
 use native.Mathlib.Omega.{arith}
 use lib.ListN.{length}
 use lib.Ieee.{lt, add, mul, neg, of_int}
-use Rattle.lists.specs.Members.{All, Any}
-use Rattle.little_endian.specs.Words.{u32_at}
-use Rattle.floats.specs.Order.{larger, smaller}
-use Rattle.geometry.specs.Boxes.{positive_area}
-use Rattle.geometry.specs.Pixels.{spans, meets, touches}
-use Rattle.affine.specs.Affines.{bounding_box, transform_rect_bbox}
-use Rattle.device.specs.declared.DeviceRegion.{DeviceRegion}
-use Rattle.commands.specs.Bounds.{united_from, bounds}
-use Rattle.index_words.specs.Painting.{paint_all, paint_at}
-use Rattle.candidates.specs.Table.{bad_row, find_row, find}
-use Rattle.painting.specs.Inked as Inked
+use Rattle.base_lists.specs.Members.{All, Any}
+use Rattle.base_little_endian.specs.Words.{u32_at}
+use Rattle.base_floats.specs.Order.{larger, smaller}
+use Rattle.kurbo_geometry.specs.Boxes.{positive_area}
+use Rattle.kurbo_geometry.specs.Pixels.{spans, meets, touches}
+use Rattle.kurbo_affine.specs.Affines.{bounding_box, transform_rect_bbox}
+use Rattle.compositor_device.specs.declared.DeviceRegion.{DeviceRegion}
+use Rattle.display_list_commands.specs.Bounds.{united_from, bounds}
+use Rattle.compositor_index_words.specs.Painting.{paint_all, paint_at}
+use Rattle.compositor_candidates.specs.Table.{bad_row, find_row, find}
+use Rattle.panels_painting.specs.Inked as Inked
 use Rattle.panels.specs.Panels.{Ordering, Orders, paint_whole, paint_region, PanelsAgree}
 use Rattle.panels.proofs.Entries.{panels_agree}
 use Rattle.panels_examples.specs.Pages.{bytes, header, cell}
@@ -25,7 +25,7 @@ use Rattle.panels_examples.specs.Frames.{P, turn, upper, lower, paint, mark, fra
 use Rattle.panels_examples.specs.Shown.{Show, Turns, Shown}
 use Rattle.panels_examples.proofs.Calls.{index, worked}
 use Rattle.panels_examples.proofs.Trace as Trace
-use Rattle.screen.specs.Sizes.{screen, size_fits}
+use Rattle.compositor_screen.specs.Sizes.{screen, size_fits}
 
 -- ---- the theorem
 twelve : length header ≡ 12

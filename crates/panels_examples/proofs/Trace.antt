@@ -5,19 +5,19 @@ use mathlib.Core.List.{List, [], ◌∷◌, ◌++◌, foldl}
 use mathlib.Core.Option.{Option, none, some}
 use Prim.Native.Nat.{ℕ}
 use Rattle.std.specs.Prelude.{Ok}
-use Rattle.refusals.specs.declared.Fault.TheVariants.{CutOff, NoRoom}
-use Rattle.refusals.specs.Table.{refused}
-use Rattle.lists.specs.Members.{All, In}
-use Rattle.lists.proofs.Members.{in_all, all_in, all_left, all_right}
-use Rattle.device.specs.declared.DeviceRegion.{DeviceRegion}
-use Rattle.commands.specs.Bounds.{Command}
-use Rattle.scheduler.specs.Schedule.{pixels_of}
+use Rattle.base_refusals.specs.declared.Fault.TheVariants.{CutOff, NoRoom}
+use Rattle.base_refusals.specs.Table.{refused}
+use Rattle.base_lists.specs.Members.{All, In}
+use Rattle.base_lists.proofs.Members.{in_all, all_in, all_left, all_right}
+use Rattle.compositor_device.specs.declared.DeviceRegion.{DeviceRegion}
+use Rattle.display_list_commands.specs.Bounds.{Command}
+use Rattle.compositor_scheduler.specs.Schedule.{pixels_of}
 use Rattle.runtime.specs.Work.{work_of}
-use Rattle.plans.specs.Space.{Slices, lent_of}
-use Rattle.plans.specs.Answers.{items_fit, draft_fits, planned, answer_of, accepted, index_words_of, published}
-use Rattle.painting.specs.Painters.{Pixel, Rules, GlyphRule}
-use Rattle.painting.proofs.Fewer.{rules_fewer}
-use Rattle.painting.proofs.GlyphRules.{glyph_rule}
+use Rattle.plan_answers.specs.Space.{Slices, lent_of}
+use Rattle.plan_answers.specs.Answers.{items_fit, draft_fits, planned, answer_of, accepted, index_words_of, published}
+use Rattle.panels_painting.specs.Painters.{Pixel, Rules, GlyphRule}
+use Rattle.panels_painting.proofs.Fewer.{rules_fewer}
+use Rattle.panels_painting.proofs.GlyphRules.{glyph_rule}
 use Rattle.panels.specs.Panels.{Planner, Frame, Ordering, Used, Orders, paint_whole, paint_regions, State, start, step}
 use Rattle.panels.specs.Entries.{drafted_regions}
 use Rattle.panels.proofs.Frames.{used_none, used_accepted, used_refused, orders_accepted, orders_refused, step_accepted, step_refused}
@@ -26,7 +26,7 @@ use Rattle.panels_examples.specs.Frames.{P, room, first, cut, crowded, turn, upp
 use Rattle.panels_examples.specs.Shown.{answer}
 use Rattle.panels_examples.proofs.Calls.{index, worked}
 use Rattle.panels_examples.proofs.Painted.{Painted, painted_rules, pages_painted, pages_one_box}
-use Rattle.screen.specs.Sizes.{screen}
+use Rattle.compositor_screen.specs.Sizes.{screen}
 
 abbrev pub one : List ℕ
 one = strip page_one

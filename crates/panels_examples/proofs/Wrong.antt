@@ -5,23 +5,23 @@ use mathlib.Core.Option.{Option, some}
 use Prim.Native.Nat.{ℕ}
 use native.Mathlib.Omega.{arith}
 use lib.Ieee.{lt, add, mul, neg, of_int}
-use Rattle.lists.specs.Members.{All}
-use Rattle.floats.specs.Order.{larger, smaller}
-use Rattle.geometry.specs.Boxes.{positive_area}
-use Rattle.geometry.specs.Pixels.{spans, meets, touches}
-use Rattle.affine.specs.Affines.{bounding_box, transform_rect_bbox}
-use Rattle.device.specs.declared.DeviceRegion.{DeviceRegion}
-use Rattle.commands.specs.Bounds.{united_from, bounds}
-use Rattle.index_words.specs.Painting.{paint_all}
-use Rattle.painting.specs.Inked as Inked
-use Rattle.plans.specs.Space.{Slices}
+use Rattle.base_lists.specs.Members.{All}
+use Rattle.base_floats.specs.Order.{larger, smaller}
+use Rattle.kurbo_geometry.specs.Boxes.{positive_area}
+use Rattle.kurbo_geometry.specs.Pixels.{spans, meets, touches}
+use Rattle.kurbo_affine.specs.Affines.{bounding_box, transform_rect_bbox}
+use Rattle.compositor_device.specs.declared.DeviceRegion.{DeviceRegion}
+use Rattle.display_list_commands.specs.Bounds.{united_from, bounds}
+use Rattle.compositor_index_words.specs.Painting.{paint_all}
+use Rattle.panels_painting.specs.Inked as Inked
+use Rattle.plan_answers.specs.Space.{Slices}
 use Rattle.panels.specs.Panels.{Ordering, paint_whole, start, Agree, PanelsAgree}
 use Rattle.panels_examples.specs.Pages.{cell}
 use Rattle.panels_examples.specs.Frames.{room, paint, mark, at}
 use Rattle.panels_examples.specs.Wrong.{quiet, mute, ToldApart}
 use Rattle.panels_examples.proofs.Shown.{entries_keep}
 use Rattle.panels_examples.proofs.Trace as Trace
-use Rattle.screen.specs.Sizes.{screen}
+use Rattle.compositor_screen.specs.Sizes.{screen}
 
 nothing_to_paint : Ordering [] []
 unfolding All

@@ -3,14 +3,14 @@ use mathlib.Core.List.{List, [], ◌∷◌, foldl}
 use Rattle.std.specs.Prelude.{ℕ, ◌<◌, replicate}
 use Rattle.std.specs.Float.{binary64}
 use Rattle.std.specs.Float.Ieee.{add}
-use Rattle.floats.specs.Whole.{whole}
-use Rattle.geometry.specs.declared.Rect.{Rect}
-use Rattle.device.specs.declared.DeviceRegion.{DeviceRegion}
-use Rattle.commands.specs.Bounds.{Command}
-use Rattle.plans.specs.Space.{Slices}
-use Rattle.screen.specs.Sizes.{screen}
-use Rattle.painting.specs.Painters.{Pixel, Key}
-use Rattle.painting.specs.Inked as Inked
+use Rattle.base_floats.specs.Whole.{whole}
+use Rattle.kurbo_geometry.specs.declared.Rect.{Rect}
+use Rattle.compositor_device.specs.declared.DeviceRegion.{DeviceRegion}
+use Rattle.display_list_commands.specs.Bounds.{Command}
+use Rattle.plan_answers.specs.Space.{Slices}
+use Rattle.compositor_screen.specs.Sizes.{screen}
+use Rattle.panels_painting.specs.Painters.{Pixel, Key}
+use Rattle.panels_painting.specs.Inked as Inked
 use Rattle.panels.specs.Panels.{Planner, Frame, State, start, step}
 use Rattle.panels.specs.Entries.{entries}
 use Rattle.panels_examples.specs.Pages.{page_one, page_two, strip, cell, header}

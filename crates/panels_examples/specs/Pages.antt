@@ -11,13 +11,13 @@
 use Rattle.std.specs.Prelude.{List, [], ◌∷◌, ◌++◌, ℕ, zero, suc, ◌+◌, ◌/◌, ◌%◌, Float}
 use Rattle.std.specs.Float.{binary32, binary64}
 use Rattle.std.specs.Float.Ieee.{to_bits, neg}
-use Rattle.floats.specs.Whole.{whole}
-use Rattle.geometry.specs.declared.Rect.{Rect}
-use Rattle.affine.specs.declared.Affine.{Affine}
-use Rattle.commands.specs.declared.Glyph.{Glyph}
-use Rattle.commands.specs.declared.DrawCommand.{DrawCommand}
-use Rattle.commands.specs.declared.DrawCommand.TheVariants.{FillPath, StrokePath, GlyphRun, Scene}
-use Rattle.commands.specs.Bounds.{Command}
+use Rattle.base_floats.specs.Whole.{whole}
+use Rattle.kurbo_geometry.specs.declared.Rect.{Rect}
+use Rattle.kurbo_affine.specs.declared.Affine.{Affine}
+use Rattle.display_list_commands.specs.declared.Glyph.{Glyph}
+use Rattle.display_list_commands.specs.declared.DrawCommand.{DrawCommand}
+use Rattle.display_list_commands.specs.declared.DrawCommand.TheVariants.{FillPath, StrokePath, GlyphRun, Scene}
+use Rattle.display_list_commands.specs.Bounds.{Command}
 
 -- ---- the pages
 abbrev pub box : Float → Float → ℕ → ℕ → Rect

@@ -1,15 +1,15 @@
 -- Demand 3 at work: which of the frames are accepted, that the panels agree before each frame and after the last, and what they show.
-use Rattle.refusals.specs.declared.Fault.TheVariants.{CutOff, NoRoom}
-use Rattle.refusals.specs.declared.Refusal.{Refusal}
-use Rattle.refusals.specs.Table.{refused}
+use Rattle.base_refusals.specs.declared.Fault.TheVariants.{CutOff, NoRoom}
+use Rattle.base_refusals.specs.declared.Refusal.{Refusal}
+use Rattle.base_refusals.specs.Table.{refused}
 use Rattle.std.specs.Prelude.{◌≡◌, [], ◌∷◌, ℕ, ◌<◌, Result, Ok}
 use Rattle.std.proofs.Math.Option.{Option, none, some}
-use Rattle.screen.specs.Sizes.{screen}
-use Rattle.painting.specs.Painters.{Rules, GlyphRule}
+use Rattle.compositor_screen.specs.Sizes.{screen}
+use Rattle.panels_painting.specs.Painters.{Rules, GlyphRule}
 use Rattle.runtime.specs.Work.{work_of}
-use Rattle.plans.specs.declared.Plan.{Plan}
-use Rattle.plans.specs.Space.{lent_of}
-use Rattle.plans.specs.Answers.{planned, answer_of}
+use Rattle.plan_answers.specs.declared.Plan.{Plan}
+use Rattle.plan_answers.specs.Space.{lent_of}
+use Rattle.plan_answers.specs.Answers.{planned, answer_of}
 use Rattle.panels.specs.Panels.{Frame, Used, Orders, start, Agree, State}
 use Rattle.panels.specs.Entries.{call_of}
 use Rattle.panels_examples.specs.Pages.{header, strip, page_one, page_two, cell}

@@ -1,8 +1,8 @@
 -- Two wrong planners of the reviewer's list, each told from the entries by demand 3.
 use Rattle.std.specs.Prelude.{List, []}
 use Rattle.std.proofs.Math.Option.{Option, none, some}
-use Rattle.screen.specs.Sizes.{screen}
-use Rattle.device.specs.declared.DeviceRegion.{DeviceRegion}
+use Rattle.compositor_screen.specs.Sizes.{screen}
+use Rattle.compositor_device.specs.declared.DeviceRegion.{DeviceRegion}
 use Rattle.panels.specs.Panels.{Planner, PanelsAgree}
 use Rattle.panels_examples.specs.Frames.{P}
 

@@ -4,10 +4,10 @@ use Rattle.std.specs.Prelude.{◌*◌, ◌≤◌, Ok}
 use lib.ListN.{length}
 use native.Mathlib.Omega.{arith}
 use Rattle.planner.proofs.Published.{Fits, answer_fits}
-use Rattle.plans.specs.declared.Plan.{Plan}
-use Rattle.plans.specs.Drafts.{Outcome}
-use Rattle.plans.specs.Space.{Slices, lent_of}
-use Rattle.plans.specs.Answers.{answer_of}
+use Rattle.plan_answers.specs.declared.Plan.{Plan}
+use Rattle.plan_answers.specs.Drafts.{Outcome}
+use Rattle.plan_answers.specs.Space.{Slices, lent_of}
+use Rattle.plan_answers.specs.Answers.{answer_of}
 
 -- the space before the call is s, and behind it t, which has as much room
 module _ (s t : Slices) (o : Outcome) (plan : Plan) (e : Ok plan ≡ answer_of (lent_of s) o) (same : lent_of t ≡ lent_of s) where

@@ -4,10 +4,10 @@
 
 ghost use Rattle.std.specs.Prelude.{◌*◌, ◌≤◌, vec_len};
 
-use entry_calls::{Entry, Limits, Space};
-use plans::Plan;
-use printing::{Numbers, Totals};
-use refusals::Fault;
+use base_refusals::Fault;
+use plan_answers::Plan;
+use plan_entry_calls::{Entry, Limits, Space};
+use plan_printing::{Numbers, Totals};
 use std::io;
 use std::io::{BufWriter, Read, Write};
 
@@ -35,14 +35,14 @@ fn write_plan(
     regions: &[u32],
     words: &[u32],
 ) -> io::Result<()> {
-    let Ok(screen) = frame::read_header(input) else {
+    let Ok(screen) = strip_frame::read_header(input) else {
         return Ok(());
     };
     let Plan { rects, work, .. } = plan;
     writeln!(out, "dirty {rects}")?;
     let (regions, _) = regions.as_chunks::<4>();
     for [x, y, wide, high] in regions {
-        let row = candidates::candidates(screen, *y, words);
+        let row = compositor_candidates::candidates(screen, *y, words);
         writeln!(out, "region {x} {y} {wide} {high} draw{}", Numbers(row))?;
     }
     writeln!(out, "{}", Totals(work))

@@ -9,21 +9,21 @@ use lib.ListN.{length, take, drop}
 use lib.Ieee.{Float}
 use lib.Ieee.Fits.{and_l, and_r}
 use borrow.Author.Tests.{leb-true}
-use Rattle.lists.proofs.Bools.{holds, is_true}
+use Rattle.base_lists.proofs.Bools.{holds, is_true}
 use Rattle.std.specs.Prelude.{Result, Err}
-use Rattle.refusals.specs.declared.Fault.TheVariants.{NoRoom}
-use Rattle.refusals.specs.declared.Refusal.{Refusal}
-use Rattle.refusals.specs.Table.{refused, refusal}
-use Rattle.lists.proofs.Picks.{pick_cases}
-use Rattle.geometry.specs.declared.Rect.{Rect}
-use Rattle.rect_list.specs.Rects as Rects
-use Rattle.scheduler.proofs.Writes.{words_length}
-use Rattle.plans.specs.declared.Plan.{Plan}
-use Rattle.plans.specs.Drafts.{Draft, Items, Outcome, refuses, drafted}
-use Rattle.plans.specs.Space.{Lent}
-use Rattle.plans.specs.Answers.{items_fit, draft_fits, counts, answer_of, rect_words_of, region_words_of, index_words_of, published}
-use Rattle.drafting.specs.Drafted.{DraftWritten}
-use Rattle.frame_drafts.specs.Scratch.{WrittenFor, lent_scratch}
+use Rattle.base_refusals.specs.declared.Fault.TheVariants.{NoRoom}
+use Rattle.base_refusals.specs.declared.Refusal.{Refusal}
+use Rattle.base_refusals.specs.Table.{refused, refusal}
+use Rattle.base_lists.proofs.Picks.{pick_cases}
+use Rattle.kurbo_geometry.specs.declared.Rect.{Rect}
+use Rattle.base_rect_list.specs.Rects as Rects
+use Rattle.compositor_scheduler.proofs.Writes.{words_length}
+use Rattle.plan_answers.specs.declared.Plan.{Plan}
+use Rattle.plan_answers.specs.Drafts.{Draft, Items, Outcome, refuses, drafted}
+use Rattle.plan_answers.specs.Space.{Lent}
+use Rattle.plan_answers.specs.Answers.{items_fit, draft_fits, counts, answer_of, rect_words_of, region_words_of, index_words_of, published}
+use Rattle.plan_drafting.specs.Drafted.{DraftWritten}
+use Rattle.plan_frame_drafts.specs.Scratch.{WrittenFor, lent_scratch}
 use Rattle.planner.specs.Calls.{rect_count, region_count, word_count, Copies}
 
 -- a rectangle has four words

@@ -1,12 +1,12 @@
 -- A call's slices, and what is copied from scratch to the output.
-use Rattle.refusals.specs.declared.Refusal.{Refusal}
+use Rattle.base_refusals.specs.declared.Refusal.{Refusal}
 use Rattle.std.specs.Prelude.{◌≡◌, List, ℕ, ◌*◌, ◌≤◌, length, replicate, Float, Result, Ok, Err}
 use Rattle.std.specs.Float.{binary64}
 use Rattle.std.specs.Float.Ieee.{of_bits}
-use Rattle.plans.specs.declared.Plan.{Plan}
-use Rattle.plans.specs.Drafts.{Outcome}
-use Rattle.plans.specs.Space.{Slices, lent_of}
-use Rattle.plans.specs.Answers.{Answered, rect_words_of, region_words_of, index_words_of, published}
+use Rattle.plan_answers.specs.declared.Plan.{Plan}
+use Rattle.plan_answers.specs.Drafts.{Outcome}
+use Rattle.plan_answers.specs.Space.{Slices, lent_of}
+use Rattle.plan_answers.specs.Answers.{Answered, rect_words_of, region_words_of, index_words_of, published}
 
 -- the slices in the order in which the entries take them
 abbrev pub slices : List Float → List ℕ → List ℕ → List Float → List ℕ → List ℕ → List Float → List ℕ → List Float → List ℕ → List ℕ → List ℕ → List ℕ → Slices

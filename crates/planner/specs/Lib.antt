@@ -1,2 +1,2 @@
--- What a reader must believe of the entries beside crate `plans`: how their slices are named, and what clearing leaves.
+-- What a reader must believe of the entries beside crate `plan_answers`: how their slices are named, and what clearing leaves.
 pub mod Calls

@@ -3,14 +3,14 @@
 #![tactic(auto)]
 
 ghost use Rattle.std.specs.Prelude.{◌≡◌, ◌++◌, ◌/◌, min, length, take, drop};
-ghost use Rattle.plans.specs.Space.{lent_of};
-ghost use Rattle.plans.specs.Answers as Answers;
-ghost use Rattle.plans.specs.Drafts.{outcome};
+ghost use Rattle.plan_answers.specs.Space.{lent_of};
+ghost use Rattle.plan_answers.specs.Answers as Answers;
+ghost use Rattle.plan_answers.specs.Drafts.{outcome};
 ghost use Rattle.planner.specs.Calls.{slices, Promise, rect_count, region_count, word_count, Copies, Zeros, ZeroFloats};
 
-pub use frame::Entry;
-use plans::{Plan, Room};
-use refusals::Refusal;
+use base_refusals::Refusal;
+use plan_answers::{Plan, Room};
+pub use strip_frame::Entry;
 
 // How many rectangles are lent, in the output and in scratch, with a working region each.
 fn rect_room(rects: &[f64], draft_rects: &[f64], work: &[u64], spare: &[u64]) -> usize
@@ -40,9 +40,9 @@ fn publish(
         return;
     };
     let region_count = accepted.work.regions_transferred as usize;
-    lists::copy_front(draft_rects, 4 * accepted.rects, rects);
-    lists::copy_front(draft_regions, 4 * region_count, regions);
-    lists::copy_front(draft_words, accepted.words, words);
+    base_lists::copy_front(draft_rects, 4 * accepted.rects, rects);
+    base_lists::copy_front(draft_regions, 4 * region_count, regions);
+    base_lists::copy_front(draft_words, accepted.words, words);
 }
 
 // The scratch is cleared in two functions of five slices, of which no two lists are alike.
@@ -83,7 +83,7 @@ fn clear_draft(
 // The plan that the entry makes of its input: of a first frame, header and one strip; of a frame after another, header, the last accepted
 // strip and the new one. Any bytes and any lent space will do. The thirteen lent slices stay parameters: C lends them one by one, and a
 // slice of a Vec that is put in a struct, or lent through one of several `&mut` fields, loses its elements for the prover.
-#[tactic(auto, using(plans::proofs::Answers::answered))]
+#[tactic(auto, using(plan_answers::proofs::Answers::answered))]
 pub fn plan(
     entry: Entry,
     input: &[u8],
@@ -115,7 +115,7 @@ pub fn plan(
         regions: (regions.len() / 4).min(draft_regions.len() / 4),
         words: words.len().min(draft_words.len()),
     };
-    let plan = frame_drafts::draft_frame(
+    let plan = plan_frame_drafts::draft_frame(
         entry,
         input,
         room,

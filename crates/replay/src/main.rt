@@ -3,8 +3,8 @@
 // is lent. Each answer is followed by a line with a single dot.
 #![tactic(auto)]
 
-use entry_calls::{Entry, Limits, Space};
-use little_endian::u32_at;
+use base_little_endian::u32_at;
+use plan_entry_calls::{Entry, Limits, Space};
 use std::alloc::Global;
 use std::io;
 use std::io::{BufWriter, Read, Write};
@@ -88,7 +88,7 @@ fn answer_frame(out: &mut impl Write, alloc: Global, entry: Entry, call: &[u8]) 
     };
     let mut space = Space::new(alloc, limits.at_most(MOST))?;
     let plan = space.plan(entry, input);
-    full_form::write_answer(out, entry, input, plan, &space)
+    plan_full_form::write_answer(out, entry, input, plan, &space)
 }
 
 // Header, y and words. The header may have any sizes: those that do not fit are refused where the row is looked up.
@@ -101,8 +101,8 @@ fn answer_candidates(out: &mut impl Write, alloc: Global, call: &[u8]) -> io::Re
         .take(MOST.index_words as usize)
         .map(|word| u32_at(word, 0))
         .collect::<Vec<u32>>(alloc)?;
-    let screen = frame::sizes_at(numbers);
-    full_form::write_candidates(out, screen, u32_at(numbers, 12), &words)
+    let screen = strip_frame::sizes_at(numbers);
+    plan_full_form::write_candidates(out, screen, u32_at(numbers, 12), &words)
 }
 
 // The answer to a call, and the dot behind it.

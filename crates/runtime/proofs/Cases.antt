@@ -3,17 +3,17 @@ use mathlib.Core.Path.{◌≡◌, refl, sym, ap, subst, ◌∙◌}
 use mathlib.Core.Bool.{Bool, true, false, ◌&&◌, true≢false}
 use mathlib.Core.List.{List, [], ◌∷◌}
 use Rattle.std.proofs.lemmas.Bool.{and_parts, and_from}
-use Rattle.lists.proofs.Picks.{pick_true, pick_false}
-use Rattle.geometry.specs.declared.Rect.{Rect}
-use Rattle.commands.specs.declared.Glyph.{Glyph}
-use Rattle.commands.specs.declared.DrawCommand.{DrawCommand}
-use Rattle.commands.specs.declared.DrawCommand.TheVariants.{FillPath, StrokePath, GlyphRun, Scene}
-use Rattle.commands.specs.Bounds.{Command, glyph_bounds}
-use Rattle.operand_equality.specs.Operands.{same_glyph, equal_glyph, equal_glyphs, same_clips}
-use Rattle.equality.specs.Drawings.{same_drawing, equal, fills_alike, runs_alike, runs_alike_clipped}
-use Rattle.changes.specs.declared.Change.{Change}
-use Rattle.changes.specs.declared.Change.TheVariants.{Same, Fills, Runs, Other}
-use Rattle.changes.specs.Changes.{changed_at, changed_glyphs, change, rects_of, changed_bounds}
+use Rattle.base_lists.proofs.Picks.{pick_true, pick_false}
+use Rattle.kurbo_geometry.specs.declared.Rect.{Rect}
+use Rattle.display_list_commands.specs.declared.Glyph.{Glyph}
+use Rattle.display_list_commands.specs.declared.DrawCommand.{DrawCommand}
+use Rattle.display_list_commands.specs.declared.DrawCommand.TheVariants.{FillPath, StrokePath, GlyphRun, Scene}
+use Rattle.display_list_commands.specs.Bounds.{Command, glyph_bounds}
+use Rattle.display_list_operand_equality.specs.Operands.{same_glyph, equal_glyph, equal_glyphs, same_clips}
+use Rattle.display_list_equality.specs.Drawings.{same_drawing, equal, fills_alike, runs_alike, runs_alike_clipped}
+use Rattle.display_list_changes.specs.declared.Change.{Change}
+use Rattle.display_list_changes.specs.declared.Change.TheVariants.{Same, Fills, Runs, Other}
+use Rattle.display_list_changes.specs.Changes.{changed_at, changed_glyphs, change, rects_of, changed_bounds}
 use Rattle.runtime.specs.Placed.{Tells}
 
 -- ---- operands

@@ -6,15 +6,15 @@ use Prim.Native.Nat.{ℕ, zero, suc, ◌+◌, ◌-◌, ◌*◌, ◌≤◌, ◌<�
 use native.Mathlib.Omega.{arith}
 use lib.ListN.{drop}
 use lib.Ieee.{Float}
-use Rattle.lists.proofs.Picks.{le_or_lt}
-use Rattle.geometry.specs.declared.Rect.{Rect}
-use Rattle.commands.specs.Bounds.{Command, bounds}
-use Rattle.changes.specs.declared.Change.{Change}
-use Rattle.changes.specs.Changes.{rects_of, changed_bounds, diff_dirty}
-use Rattle.stored_lists.specs.Stored.{Stored, command_in, commands_in}
-use Rattle.stored_lists.proofs.Places.{commands_end, commands_next, boxes_beside}
-use Rattle.rect_words.specs.Words.{box_at, boxes_to}
-use Rattle.rect_words.proofs.Lists.{boxes_last}
+use Rattle.base_lists.proofs.Picks.{le_or_lt}
+use Rattle.kurbo_geometry.specs.declared.Rect.{Rect}
+use Rattle.display_list_commands.specs.Bounds.{Command, bounds}
+use Rattle.display_list_changes.specs.declared.Change.{Change}
+use Rattle.display_list_changes.specs.Changes.{rects_of, changed_bounds, diff_dirty}
+use Rattle.display_list_stored.specs.Stored.{Stored, command_in, commands_in}
+use Rattle.display_list_stored.proofs.Places.{commands_end, commands_next, boxes_beside}
+use Rattle.base_rect_words.specs.Words.{box_at, boxes_to}
+use Rattle.base_rect_words.proofs.Lists.{boxes_last}
 use Rattle.runtime.specs.Placed.{Tells}
 
 -- ---- the boxes of a remainder

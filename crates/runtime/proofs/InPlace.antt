@@ -9,16 +9,16 @@ use lib.ListN.{length, get_or}
 use lib.Ieee.{Float, binary32, to_bits}
 use borrow.Author.Tests.{leb-true, eqb-true, eq-eqb}
 use Rattle.std.specs.Prelude.{Some}
-use Rattle.lists.specs.Pick.{pick}
-use Rattle.lists.proofs.Bools.{and_off}
-use Rattle.lists.proofs.Picks.{pick_cases}
-use Rattle.little_endian.specs.Words.{u64_at, f32_at}
-use Rattle.little_endian.specs.Same.{SameBytes}
-use Rattle.commands.specs.declared.DrawCommand.{DrawCommand}
-use Rattle.commands.specs.Bounds.{Command, glyph_count}
-use Rattle.operand_equality.specs.Operands.{same_bits, same_clips}
-use Rattle.operand_equality.proofs.Selves.{number_self, float_self, affine_self}
-use Rattle.equality.specs.Drawings.{same_drawing, fills_alike, runs_alike, run_alike}
+use Rattle.base_lists.specs.Pick.{pick}
+use Rattle.base_lists.proofs.Bools.{and_off}
+use Rattle.base_lists.proofs.Picks.{pick_cases}
+use Rattle.base_little_endian.specs.Words.{u64_at, f32_at}
+use Rattle.base_little_endian.specs.Same.{SameBytes}
+use Rattle.display_list_commands.specs.declared.DrawCommand.{DrawCommand}
+use Rattle.display_list_commands.specs.Bounds.{Command, glyph_count}
+use Rattle.display_list_operand_equality.specs.Operands.{same_bits, same_clips}
+use Rattle.display_list_operand_equality.proofs.Selves.{number_self, float_self, affine_self}
+use Rattle.display_list_equality.specs.Drawings.{same_drawing, fills_alike, runs_alike, run_alike}
 use Rattle.display_list.specs.Lists.{offset_at}
 use Rattle.strip_format.specs.declared.Kind.TheVariants.{Fill as FillKind, Run as RunKind}
 use Rattle.strip_format.specs.Format.{length_of, affine_at, fill_at, stroke_path_at, run_at, scene_at, blank, command_at}
@@ -27,10 +27,10 @@ use Rattle.strip_format.proofs.Lengths.{length_run}
 use Rattle.strip_format.proofs.Numbers.{single_finite, entry_numbers}
 use Rattle.strip.specs.Reading.{command_of}
 use Rattle.strip_laws.proofs.Alike.{command_twice}
-use Rattle.command_bounds.specs.Kinds.{kind_at}
-use Rattle.command_bounds.proofs.Standing.{kind_whole, stands, is_fill, is_run}
-use Rattle.changes.specs.declared.Change.TheVariants.{Same, Fills, Runs, Other}
-use Rattle.stored_lists.specs.Stored.{command_in}
+use Rattle.strip_command_bounds.specs.Kinds.{kind_at}
+use Rattle.strip_command_bounds.proofs.Standing.{kind_whole, stands, is_fill, is_run}
+use Rattle.display_list_changes.specs.declared.Change.TheVariants.{Same, Fills, Runs, Other}
+use Rattle.display_list_stored.specs.Stored.{command_in}
 use Rattle.runtime.specs.Placed.{apart, SameRun, Tells}
 use Rattle.runtime.proofs.Cases.{fills_off, equal_off, equal_unclipped, runs_unclipped, runs_off, runs_from, tells_same, tells_fills, tells_other, tells_runs}
 use Rattle.runtime.proofs.Repeats.{same_drawn, same_equal}

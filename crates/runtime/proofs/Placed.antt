@@ -5,16 +5,16 @@ use Prim.Native.Nat.{ℕ, ◌<◌}
 use native.Mathlib.Omega.{arith}
 use lib.ListN.{length, get_or}
 use lib.Ieee.{Float}
-use Rattle.commands.specs.Bounds.{glyph_bounds}
-use Rattle.operand_equality.specs.Operands.{same_clips}
-use Rattle.clips.specs.Chains.{chain}
+use Rattle.display_list_commands.specs.Bounds.{glyph_bounds}
+use Rattle.display_list_operand_equality.specs.Operands.{same_clips}
+use Rattle.display_list_clips.specs.Chains.{chain}
 use Rattle.display_list.specs.Lists.{offset_at, clip_number_at}
 use Rattle.display_list.proofs.Holding.{glyph_bounds_is}
 use Rattle.strip_format.specs.Format.{command_at}
 use Rattle.strip_format.proofs.Lengths.{length_pos}
-use Rattle.changes.specs.Changes.{changed_glyphs}
-use Rattle.stored_lists.specs.Stored.{Stored, command_in}
-use Rattle.glyph_changes.specs.Runs.{glyphs_of, windowed}
+use Rattle.display_list_changes.specs.Changes.{changed_glyphs}
+use Rattle.display_list_stored.specs.Stored.{Stored, command_in}
+use Rattle.display_list_glyph_changes.specs.Runs.{glyphs_of, windowed}
 use Rattle.runtime.specs.Placed.{run_at}
 
 -- clips compared by the numbers read

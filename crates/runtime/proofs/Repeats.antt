@@ -9,18 +9,18 @@ use lib.ListN.{length, get_or}
 use lib.Ieee.{Float}
 use borrow.Author.Tests.{eqb-true}
 use Rattle.std.proofs.lemmas.Bool.{and_from}
-use Rattle.lists.proofs.Picks.{pick_cases}
-use Rattle.little_endian.specs.Words.{u16_at}
-use Rattle.little_endian.specs.Same.{SameBytes}
-use Rattle.geometry.specs.declared.Rect.{Rect}
-use Rattle.commands.specs.declared.DrawCommand.{DrawCommand}
-use Rattle.commands.specs.declared.DrawCommand.TheVariants.{FillPath, StrokePath, GlyphRun, Scene}
-use Rattle.commands.specs.Bounds.{Command, glyph_count}
-use Rattle.operand_equality.specs.Operands.{equal_glyphs, same_clips}
-use Rattle.operand_equality.proofs.Selves.{equal_glyph_self}
-use Rattle.equality.specs.Drawings.{same_drawing, same_fill, fills_alike, equal}
-use Rattle.equality.proofs.Selves.{SizeFinite, drawing_self}
-use Rattle.clips.proofs.Chaining.{chain_none}
+use Rattle.base_lists.proofs.Picks.{pick_cases}
+use Rattle.base_little_endian.specs.Words.{u16_at}
+use Rattle.base_little_endian.specs.Same.{SameBytes}
+use Rattle.kurbo_geometry.specs.declared.Rect.{Rect}
+use Rattle.display_list_commands.specs.declared.DrawCommand.{DrawCommand}
+use Rattle.display_list_commands.specs.declared.DrawCommand.TheVariants.{FillPath, StrokePath, GlyphRun, Scene}
+use Rattle.display_list_commands.specs.Bounds.{Command, glyph_count}
+use Rattle.display_list_operand_equality.specs.Operands.{equal_glyphs, same_clips}
+use Rattle.display_list_operand_equality.proofs.Selves.{equal_glyph_self}
+use Rattle.display_list_equality.specs.Drawings.{same_drawing, same_fill, fills_alike, equal}
+use Rattle.display_list_equality.proofs.Selves.{SizeFinite, drawing_self}
+use Rattle.display_list_clips.proofs.Chaining.{chain_none}
 use Rattle.strip_format.specs.Format.{length_of, command_at, glyph_at, glyphs_from}
 use Rattle.strip_format.proofs.Commands.{command_cases}
 use Rattle.strip_format.proofs.Alike.{glyphs_twice}
@@ -30,7 +30,7 @@ use Rattle.strip.specs.Reading.{command_of}
 use Rattle.strip_laws.proofs.Alike.{command_twice}
 use Rattle.strip_laws.proofs.Numbers.{draw_numbers}
 use Rattle.display_list.specs.Lists.{clip_number_at}
-use Rattle.stored_lists.specs.Stored.{command_in}
+use Rattle.display_list_stored.specs.Stored.{command_in}
 use Rattle.runtime.specs.Placed.{whole_length, AlikeClips}
 use Rattle.runtime.proofs.Cases.{drawn, equal_parts}
 

@@ -1,21 +1,21 @@
 -- Commands at two places of a list in lent space, compared.
 use Rattle.std.specs.Prelude.{◌≡◌, Bool, true, false, List, ℕ, ◌+◌, ◌*◌, ◌<◌, eqb, get_or, Some, Float}
-use Rattle.lists.specs.Pick.{pick}
-use Rattle.little_endian.specs.Words.{u16_at}
-use Rattle.commands.specs.Bounds.{Command, transform_of, glyph_count}
-use Rattle.operand_equality.specs.Operands.{same_clips}
-use Rattle.clips.specs.Chains.{chain}
+use Rattle.base_lists.specs.Pick.{pick}
+use Rattle.base_little_endian.specs.Words.{u16_at}
+use Rattle.display_list_commands.specs.Bounds.{Command, transform_of, glyph_count}
+use Rattle.display_list_operand_equality.specs.Operands.{same_clips}
+use Rattle.display_list_clips.specs.Chains.{chain}
 use Rattle.display_list.specs.Lists.{offset_at, clip_number_at}
-use Rattle.equality.specs.Drawings.{same_drawing, equal}
+use Rattle.display_list_equality.specs.Drawings.{same_drawing, equal}
 use Rattle.strip_format.specs.declared.Kind.TheVariants.{Run as RunKind}
 use Rattle.strip_format.specs.Format.{length_of, command_at}
 use Rattle.strip_format.specs.Layout as Layout
-use Rattle.command_bounds.specs.Kinds.{kind_at}
-use Rattle.stored_lists.specs.Stored.{Stored}
-use Rattle.glyph_changes.specs.declared.Run.{Run}
-use Rattle.changes.specs.declared.Change.{Change}
-use Rattle.changes.specs.declared.Change.TheVariants.{Same}
-use Rattle.changes.specs.Changes.{rects_of, changed_bounds}
+use Rattle.strip_command_bounds.specs.Kinds.{kind_at}
+use Rattle.display_list_stored.specs.Stored.{Stored}
+use Rattle.display_list_glyph_changes.specs.declared.Run.{Run}
+use Rattle.display_list_changes.specs.declared.Change.{Change}
+use Rattle.display_list_changes.specs.declared.Change.TheVariants.{Same}
+use Rattle.display_list_changes.specs.Changes.{rects_of, changed_bounds}
 
 -- two places of a list that the space holds
 pub record Both (i j : ℕ) (s : List ℕ) (bs : List Float) (ns is : List ℕ) (ibs : List Float) : Type 0 where

@@ -4,27 +4,27 @@
 #![tactic(auto)]
 
 ghost use Rattle.std.specs.Prelude.{◌≡◌, true, [], ◌+◌, ◌*◌, ◌^◌, ◌≤◌, ◌<◌, length, drop};
-ghost use Rattle.commands.specs.Bounds.{glyph_count};
-ghost use Rattle.operand_equality.specs.Operands.{same_clips};
-ghost use Rattle.clips.specs.Chains.{chain, Rooted};
-ghost use Rattle.differences.specs.Differences.{rect_symmetric_difference};
+ghost use Rattle.display_list_commands.specs.Bounds.{glyph_count};
+ghost use Rattle.display_list_operand_equality.specs.Operands.{same_clips};
+ghost use Rattle.display_list_clips.specs.Chains.{chain, Rooted};
+ghost use Rattle.display_list_differences.specs.Differences.{rect_symmetric_difference};
 ghost use Rattle.display_list.specs.Lists.{offset_at, clip_number_at};
 ghost use Rattle.strip_format.specs.Format.{command_at};
 ghost use Rattle.strip_format.specs.Limits as Limits;
 ghost use Rattle.strip.specs.Reading.{command_of};
-ghost use Rattle.changes.specs.Changes.{rects_of, diff_dirty};
-ghost use Rattle.stored_lists.specs.Stored.{Stored, command_in, commands_in};
-ghost use Rattle.rect_list.specs.Rects.{AddedTo, Listed};
-ghost use Rattle.glyph_changes.specs.Runs.{most_boxes};
+ghost use Rattle.display_list_changes.specs.Changes.{rects_of, diff_dirty};
+ghost use Rattle.display_list_stored.specs.Stored.{Stored, command_in, commands_in};
+ghost use Rattle.base_rect_list.specs.Rects.{AddedTo, Listed};
+ghost use Rattle.display_list_glyph_changes.specs.Runs.{most_boxes};
 ghost use Rattle.runtime.specs.Placed as Placed;
 ghost use Rattle.runtime.specs.Placed.{Both, whole_length, AlikeClips, SameRun, Tells};
 ghost use Rattle.runtime.specs.Work.{work_of};
-ghost use Rattle.rect_words.specs.Words.{box_at, boxes_to};
+ghost use Rattle.base_rect_words.specs.Words.{box_at, boxes_to};
 
-use changes::Change;
-use geometry::Rect;
-use glyph_changes::Run;
-use rect_list::RectList;
+use base_rect_list::RectList;
+use display_list_changes::Change;
+use display_list_glyph_changes::Run;
+use kurbo_geometry::Rect;
 use strip_format::{Kind, layout};
 
 // The counts that dew keeps of a frame, as far as a plan tells them.
@@ -63,7 +63,7 @@ pub struct ListSpace<'a> {
 fn glyph_count_at(s: &[u8], at: usize) -> u32
     ensures { result ≡ glyph_count (command_at s.now at) }
 {
-    if !command_bounds::stands(s, at, Kind::Run) {
+    if !strip_command_bounds::stands(s, at, Kind::Run) {
         return 0;
     }
     u32::from(strip_format::glyph_count_at(s, at))
@@ -75,7 +75,7 @@ fn glyph_count_at(s: &[u8], at: usize) -> u32
 fn apart(s: &[u8], at: usize, other: usize) -> bool
     ensures { result ≡ Placed.apart s.now at other }
 {
-    Kind::try_from(little_endian::byte_at(s, at)) != Ok(Kind::Run)
+    Kind::try_from(base_little_endian::byte_at(s, at)) != Ok(Kind::Run)
         && !strip_equality::same_drawing_at(s, at, other)
 }
 
@@ -83,9 +83,9 @@ fn apart(s: &[u8], at: usize, other: usize) -> bool
 fn same_run(s: &[u8], at: usize, other: usize) -> bool
     ensures { result ≡ true → SameRun s.now at other }
 {
-    command_bounds::stands(s, at, Kind::Run)
-        && command_bounds::stands(s, other, Kind::Run)
-        && little_endian::same_bytes(s, at, other, layout::RUN_LENGTH)
+    strip_command_bounds::stands(s, at, Kind::Run)
+        && strip_command_bounds::stands(s, other, Kind::Run)
+        && base_little_endian::same_bytes(s, at, other, layout::RUN_LENGTH)
 }
 
 // The length of the command at an offset, with its glyphs.
@@ -109,7 +109,7 @@ fn unchanged(s: &[u8], at: usize, other: usize) -> bool
     ensures { result ≡ true → command_of s.now at [] ≡ command_of s.now other [] }
 {
     let n = whole_length(s, at);
-    n <= s.len() - at && n <= s.len() - other && little_endian::same_bytes(s, at, other, n)
+    n <= s.len() - at && n <= s.len() - other && base_little_endian::same_bytes(s, at, other, n)
 }
 
 // Appends what the old box has beside the new one, and then what the new one has beside the old.
@@ -117,8 +117,8 @@ fn rect_symmetric_difference(old: Rect, new: Rect, rects: &mut RectList)
     requires { rects.old.count + 8 < 2 ^ 63 }
     ensures { AddedTo 8 rects.old (rect_symmetric_difference old new) rects.new }
 {
-    rects.extend_parts(differences::rect_difference(old, new));
-    rects.extend_parts(differences::rect_difference(new, old));
+    rects.extend_parts(display_list_differences::rect_difference(old, new));
+    rects.extend_parts(display_list_differences::rect_difference(new, old));
 }
 
 impl ListSpace<'_> {
@@ -142,7 +142,7 @@ impl ListSpace<'_> {
         requires { 4 * i + 4 ≤ length self.item_boxes.now }
         ensures { result ≡ box_at self.entry.item_boxes.now i }
     {
-        rect_words::rect_from(self.item_boxes, 4 * i)
+        base_rect_words::rect_from(self.item_boxes, 4 * i)
     }
 
     // The glyphs of the command at a place.
@@ -154,7 +154,7 @@ impl ListSpace<'_> {
         Run {
             glyphs: at + layout::RUN_GLYPHS,
             count: glyph_count_at(self.bytes, at),
-            transform: command_bounds::transform_at(self.bytes, at),
+            transform: strip_command_bounds::transform_at(self.bytes, at),
             clip: self.clip_number_at(i),
         }
     }
@@ -165,7 +165,8 @@ impl ListSpace<'_> {
         requires { Rooted self.boxes.now self.below.now numbers.0 numbers.1 × AlikeClips self.boxes.now self.below.now known.0 known.1 }
         ensures { result ≡ same_clips (chain self.entry.boxes.now self.entry.below.now numbers.0) (chain self.entry.boxes.now self.entry.below.now numbers.1) }
     {
-        numbers == known || clips::same_clips(self.boxes, self.below, numbers.0, numbers.1)
+        numbers == known
+            || display_list_clips::same_clips(self.boxes, self.below, numbers.0, numbers.1)
     }
 
     // How the command at place i became the one at place j, by their decoded operands, glyphs and clips. FILLs alike are drawn alike, so of what is
@@ -179,19 +180,23 @@ impl ListSpace<'_> {
         let new = strip_format::command_at(self.bytes, self.offset_at(j));
         let clip = self.clip_number_at(i);
         let other_clip = self.clip_number_at(j);
-        if equality::same_drawing(old, new)
-            && glyph_changes::equal_glyphs(self.bytes, self.run_at(i), self.run_at(j))
+        if display_list_equality::same_drawing(old, new)
+            && display_list_glyph_changes::equal_glyphs(
+                self.bytes,
+                self.run_at(i),
+                self.run_at(j),
+            )
         {
-            if clips::same_clips(self.boxes, self.below, clip, other_clip) {
+            if display_list_clips::same_clips(self.boxes, self.below, clip, other_clip) {
                 return Change::Same;
             }
-            if equality::fills_alike(old, new) {
+            if display_list_equality::fills_alike(old, new) {
                 return Change::Fills;
             }
             return Change::Other;
         }
-        if equality::runs_alike(old, new)
-            && clips::same_clips(self.boxes, self.below, clip, other_clip)
+        if display_list_equality::runs_alike(old, new)
+            && display_list_clips::same_clips(self.boxes, self.below, clip, other_clip)
         {
             return Change::Runs;
         }
@@ -214,7 +219,7 @@ impl ListSpace<'_> {
             if self.clips_alike(numbers, known) {
                 return Change::Same;
             }
-            if command_bounds::stands(self.bytes, at, Kind::Fill) {
+            if strip_command_bounds::stands(self.bytes, at, Kind::Fill) {
                 return Change::Fills;
             }
             return Change::Other;
@@ -242,7 +247,9 @@ impl ListSpace<'_> {
             Change::Runs => {
                 let old = self.run_at(i);
                 let new = self.run_at(j);
-                glyph_changes::changed_glyph_bounds(self.bytes, self.boxes, old, new, rects);
+                display_list_glyph_changes::changed_glyph_bounds(
+                    self.bytes, self.boxes, old, new, rects,
+                );
             }
             Change::Other => rects.push(self.box_at(i).union(self.box_at(j))),
         }

@@ -1,10 +1,10 @@
 -- An exported entry: a plan, and its answer in numbers.
 use Rattle.std.specs.Prelude.{◌≡◌, List, ℕ}
-use Rattle.plans.specs.Drafts.{Outcome}
-use Rattle.plans.specs.Space.{Slices, lent_of}
-use Rattle.plans.specs.Answers.{answer_of, number_of}
+use Rattle.plan_answers.specs.Drafts.{Outcome}
+use Rattle.plan_answers.specs.Space.{Slices, lent_of}
+use Rattle.plan_answers.specs.Answers.{answer_of, number_of}
 use Rattle.planner.specs.Calls.{Promise}
-use Rattle.answer_words.specs.Words.{overwritten, answer_words}
+use Rattle.plan_answer_words.specs.Words.{overwritten, answer_words}
 
 -- What such an entry promises, by what its bytes come to: document 01's number; the whole answer in the words lent for it, as many as there is room for; and
 -- what the plan promises of the slices.

@@ -4,15 +4,15 @@
 #![tactic(auto)]
 
 ghost use Rattle.std.specs.Prelude.{◌≡◌};
-ghost use Rattle.plans.specs.Drafts.{first_outcome, next_outcome};
+ghost use Rattle.plan_answers.specs.Drafts.{first_outcome, next_outcome};
 ghost use Rattle.planner.specs.Calls.{slices};
-ghost use Rattle.candidates.specs.Table as Table;
-ghost use Rattle.answer_words.specs.Words.{overwritten, part_words};
+ghost use Rattle.compositor_candidates.specs.Table as Table;
+ghost use Rattle.plan_answer_words.specs.Words.{overwritten, part_words};
 ghost use Rattle.sovdringa.specs.Calls.{Exported};
-ghost use Rattle.screen.specs.Sizes as Sizes;
+ghost use Rattle.compositor_screen.specs.Sizes as Sizes;
 
+use compositor_screen::Screen;
 use planner::Entry;
-use screen::Screen;
 
 // A first frame: header and one strip. Any bytes and any lent space will do.
 #[unsafe(no_mangle)]
@@ -59,7 +59,7 @@ pub extern "C" fn sovdringa_plan_first(
         draft_regions,
         draft_words,
     );
-    answer_words::put_plan(plan, answer)
+    plan_answer_words::put_plan(plan, answer)
 }
 
 // A frame after another: header, the last accepted strip and the new one. Any bytes and any lent space will do.
@@ -107,7 +107,7 @@ pub extern "C" fn sovdringa_plan_next(
         draft_regions,
         draft_words,
     );
-    answer_words::put_plan(plan, answer)
+    plan_answer_words::put_plan(plan, answer)
 }
 
 // Where the row of region y begins and ends among the index words. Any numbers and any words will do.
@@ -128,6 +128,6 @@ pub extern "C" fn sovdringa_candidates(
         height,
         band_height,
     };
-    let found = candidates::find(screen, y, words);
-    answer_words::put_part(found, part)
+    let found = compositor_candidates::find(screen, y, words);
+    plan_answer_words::put_part(found, part)
 }

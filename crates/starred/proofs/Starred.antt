@@ -1,14 +1,14 @@
 -- The starred cases hold, each by computing its definition, here or in the crate that it speaks of. Assumes nothing.
 use mathlib.Core.Path.{refl}
 use lib.Ieee.{lt, neg, div, of_int, of_bits, to_bits}
-use Rattle.floats.specs.Whole.{floor, ceil}
-use Rattle.floats.specs.Next.{next_down}
-use Rattle.geometry.specs.Boxes.{positive_area}
-use Rattle.device.specs.Region.{between}
-use Rattle.index_words.specs.Index.{stands_in, places, row_list, entries_to, start_of, starts_to, layout, index_words}
-use Rattle.changes.proofs.Examples.{cropped_fill}
+use Rattle.base_floats.specs.Whole.{floor, ceil}
+use Rattle.base_floats.specs.Next.{next_down}
+use Rattle.kurbo_geometry.specs.Boxes.{positive_area}
+use Rattle.compositor_device.specs.Region.{between}
+use Rattle.compositor_index_words.specs.Index.{stands_in, places, row_list, entries_to, start_of, starts_to, layout, index_words}
+use Rattle.display_list_changes.proofs.Examples.{cropped_fill}
 use Rattle.display_list.proofs.Examples.{stroke_box}
-use Rattle.schedule_laws.proofs.Examples.{touching_joined, apart_kept, higher_first}
+use Rattle.compositor_schedule_laws.proofs.Examples.{touching_joined, apart_kept, higher_first}
 use Rattle.starred.specs.Starred.{Starred}
 
 pub starred : Starred

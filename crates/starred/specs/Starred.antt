@@ -2,22 +2,22 @@
 use Rattle.std.specs.Prelude.{◌≡◌, List, [], ◌∷◌, ℕ, ◌+◌, Float, Some, None}
 use Rattle.std.specs.Float.{binary64}
 use Rattle.std.specs.Float.Ieee.{neg, div, of_bits, to_bits}
-use Rattle.geometry.specs.declared.Rect.{Rect}
-use Rattle.floats.specs.Whole.{whole}
-use Rattle.rows.specs.Rows.{row_count, row_of, final_row}
-use Rattle.index_words.specs.Index.{index_words}
-use Rattle.affine.specs.declared.Affine.{Affine}
-use Rattle.device.specs.declared.DeviceRegion.{DeviceRegion}
-use Rattle.device.specs.Region.{from_logical}
-use Rattle.commands.specs.declared.Join.TheVariants as J
-use Rattle.commands.specs.declared.Cap.TheVariants as C
-use Rattle.commands.specs.declared.Stroke.{Stroke}
-use Rattle.commands.specs.declared.DrawCommand.{DrawCommand}
-use Rattle.commands.specs.declared.DrawCommand.TheVariants.{FillPath, StrokePath}
-use Rattle.commands.specs.Bounds.{Command, bounds}
-use Rattle.changes.specs.Changes.{changed_bounds}
-use Rattle.screen.specs.Sizes.{screen}
-use Rattle.scheduler.specs.Schedule.{schedule}
+use Rattle.kurbo_geometry.specs.declared.Rect.{Rect}
+use Rattle.base_floats.specs.Whole.{whole}
+use Rattle.compositor_rows.specs.Rows.{row_count, row_of, final_row}
+use Rattle.compositor_index_words.specs.Index.{index_words}
+use Rattle.kurbo_affine.specs.declared.Affine.{Affine}
+use Rattle.compositor_device.specs.declared.DeviceRegion.{DeviceRegion}
+use Rattle.compositor_device.specs.Region.{from_logical}
+use Rattle.display_list_commands.specs.declared.Join.TheVariants as J
+use Rattle.display_list_commands.specs.declared.Cap.TheVariants as C
+use Rattle.display_list_commands.specs.declared.Stroke.{Stroke}
+use Rattle.display_list_commands.specs.declared.DrawCommand.{DrawCommand}
+use Rattle.display_list_commands.specs.declared.DrawCommand.TheVariants.{FillPath, StrokePath}
+use Rattle.display_list_commands.specs.Bounds.{Command, bounds}
+use Rattle.display_list_changes.specs.Changes.{changed_bounds}
+use Rattle.compositor_screen.specs.Sizes.{screen}
+use Rattle.compositor_scheduler.specs.Schedule.{schedule}
 
 infixl 70 ◌÷◌
 -- a fraction, as an f64

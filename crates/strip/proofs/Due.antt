@@ -5,16 +5,16 @@ use mathlib.Core.List.{List}
 use Prim.Native.Nat.{ℕ, ◌+◌, ◌≤◌, ◌<◌}
 use lib.ListN.{length}
 use Rattle.std.specs.Prelude.{Some}
-use Rattle.affine.specs.declared.Affine.{Affine}
-use Rattle.affine.specs.Affines.{finite_corners}
+use Rattle.kurbo_affine.specs.declared.Affine.{Affine}
+use Rattle.kurbo_affine.specs.Affines.{finite_corners}
 use Rattle.strip_format.specs.declared.Kind.TheVariants.{Run, Glyph}
 use Rattle.strip_format.specs.Format.{rect_at}
 use Rattle.strip_format.specs.Finite.{AllFinite}
 use Rattle.strip_format.proofs.Lengths.{length_glyph}
-use Rattle.command_bounds.specs.Kinds.{kind_at}
-use Rattle.command_bounds.proofs.Standing.{stands, is_run}
-use Rattle.operand_checks.specs.Operands.{finite_glyph}
-use Rattle.operand_checks.proofs.Finite.{from_all}
+use Rattle.strip_command_bounds.specs.Kinds.{kind_at}
+use Rattle.strip_command_bounds.proofs.Standing.{stands, is_run}
+use Rattle.strip_operand_checks.specs.Operands.{finite_glyph}
+use Rattle.strip_operand_checks.proofs.Finite.{from_all}
 use Rattle.strip.specs.declared.Cursor.{Cursor}
 use Rattle.strip.specs.Effects.{GlyphDue, GlyphPlaced, GoesOn}
 

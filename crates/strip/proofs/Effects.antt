@@ -7,19 +7,19 @@ use native.Mathlib.Omega.{arith}
 use lib.ListN.{length, get_or}
 use borrow.Author.Tests.{le-leb, lt-leb, lt-ltb, le-ltb, eq-eqb, ne_eqb, eqb-true, eqb-false, ltb-true}
 use lib.Dec.{eqb}
-use Rattle.refusals.specs.declared.Fault.{Fault}
-use Rattle.refusals.specs.declared.Fault.TheVariants.{CutOff, UnknownCode, NoOpenClip, TooMany, GlyphOrder, BoxNotFinite}
-use Rattle.refusals.specs.declared.Refusal.{Refusal}
-use Rattle.refusals.specs.Table.{refused}
-use Rattle.lists.proofs.Picks.{pick_true, pick_false}
+use Rattle.base_refusals.specs.declared.Fault.{Fault}
+use Rattle.base_refusals.specs.declared.Fault.TheVariants.{CutOff, UnknownCode, NoOpenClip, TooMany, GlyphOrder, BoxNotFinite}
+use Rattle.base_refusals.specs.declared.Refusal.{Refusal}
+use Rattle.base_refusals.specs.Table.{refused}
+use Rattle.base_lists.proofs.Picks.{pick_true, pick_false}
 use Rattle.strip_format.proofs.Lengths.{length_run}
-use Rattle.little_endian.specs.Words.{u16_at}
-use Rattle.geometry.specs.declared.Rect.{Rect}
-use Rattle.geometry.specs.Boxes.{union}
-use Rattle.affine.specs.Affines.{try_transform}
-use Rattle.commands.specs.Bounds.{transform_of}
+use Rattle.base_little_endian.specs.Words.{u16_at}
+use Rattle.kurbo_geometry.specs.declared.Rect.{Rect}
+use Rattle.kurbo_geometry.specs.Boxes.{union}
+use Rattle.kurbo_affine.specs.Affines.{try_transform}
+use Rattle.display_list_commands.specs.Bounds.{transform_of}
 use Rattle.strip_format.specs.Format.{length_of, rect_at, command_at}
-use Rattle.operand_checks.specs.Operands.{operands_at}
+use Rattle.strip_operand_checks.specs.Operands.{operands_at}
 use Rattle.strip.specs.declared.Cursor.{Cursor}
 use Rattle.strip.specs.declared.Step.TheVariants.{Clip, Pop}
 use Rattle.strip.specs.declared.Step.{Step}

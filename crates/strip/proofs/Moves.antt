@@ -8,15 +8,15 @@ use native.Mathlib.Omega.{arith}
 use lib.Dec.{leb, ltb, eqb}
 use lib.ListN.{length, get_or}
 use borrow.Author.Tests.{ltb-true, ltb-false, eqb-true}
-use Rattle.refusals.specs.declared.Refusal.{Refusal}
-use Rattle.lists.proofs.Picks.{pick_cases}
-use Rattle.little_endian.specs.Words.{u16_at}
-use Rattle.geometry.specs.declared.Rect.{Rect}
-use Rattle.affine.specs.Affines.{try_transform}
-use Rattle.commands.specs.Bounds.{transform_of, try_with}
+use Rattle.base_refusals.specs.declared.Refusal.{Refusal}
+use Rattle.base_lists.proofs.Picks.{pick_cases}
+use Rattle.base_little_endian.specs.Words.{u16_at}
+use Rattle.kurbo_geometry.specs.declared.Rect.{Rect}
+use Rattle.kurbo_affine.specs.Affines.{try_transform}
+use Rattle.display_list_commands.specs.Bounds.{transform_of, try_with}
 use Rattle.strip_format.specs.Format.{length_of, rect_at, command_at}
 use Rattle.strip_format.proofs.Lengths.{length_pos, length_clip, length_pop, length_run, length_glyph}
-use Rattle.operand_checks.specs.Operands.{operands_at}
+use Rattle.strip_operand_checks.specs.Operands.{operands_at}
 use Rattle.strip.specs.declared.Cursor.{Cursor}
 use Rattle.strip.specs.declared.Step.{Step}
 use Rattle.strip.specs.declared.Step.TheVariants.{Next, Clip, Pop, Draw, End}

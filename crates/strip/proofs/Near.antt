@@ -4,16 +4,16 @@ use mathlib.Core.Bool.{true}
 use mathlib.Core.List.{List}
 use Prim.Native.Nat.{ℕ, ◌+◌}
 use native.Mathlib.Omega.{arith}
-use Rattle.affine.specs.declared.Affine.{Affine}
-use Rattle.affine.specs.Affines.{finite_corners}
-use Rattle.affine.proofs.Near.{near_corners}
-use Rattle.commands.specs.Bounds.{transform_of}
+use Rattle.kurbo_affine.specs.declared.Affine.{Affine}
+use Rattle.kurbo_affine.specs.Affines.{finite_corners}
+use Rattle.kurbo_affine.proofs.Near.{near_corners}
+use Rattle.display_list_commands.specs.Bounds.{transform_of}
 use Rattle.strip_format.specs.Format.{rect_at, affine_at, command_at}
 use Rattle.strip_format.specs.Finite.{FourFinite}
 use Rattle.strip_format.proofs.Near.{near_finite, near_edges, near_entries}
-use Rattle.command_bounds.proofs.Standing.{is_run}
-use Rattle.operand_checks.specs.Operands.{finite_from, finite_glyph}
-use Rattle.operand_checks.proofs.Floats.{glyph_finite}
+use Rattle.strip_command_bounds.proofs.Standing.{is_run}
+use Rattle.strip_operand_checks.specs.Operands.{finite_from, finite_glyph}
+use Rattle.strip_operand_checks.proofs.Floats.{glyph_finite}
 use Rattle.strip.specs.declared.Cursor.{Cursor}
 use Rattle.strip.specs.Effects.{GoesOn, NearGoesOn, NearRun, OnlyMoves}
 use Rattle.strip.proofs.Settled.{goes_on, transform_is}

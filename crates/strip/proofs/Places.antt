@@ -9,20 +9,20 @@ use lib.ListN.{length}
 use lib.Ieee.{Float}
 use borrow.Author.Tests.{eqb-true, eqb-false, eq-eqb}
 use Rattle.std.specs.Prelude.{Ok}
-use Rattle.lists.proofs.Picks.{pick_true}
-use Rattle.little_endian.specs.Words.{u16_at}
-use Rattle.geometry.specs.declared.Rect.{Rect}
-use Rattle.geometry.specs.Boxes.{inflate}
-use Rattle.commands.specs.declared.Stroke.{Stroke}
-use Rattle.commands.specs.declared.DrawCommand.{DrawCommand}
-use Rattle.commands.specs.Strokes.{stroke_bounds_inflation}
-use Rattle.commands.specs.Bounds.{transform_of, stroke_bounds, local_with}
+use Rattle.base_lists.proofs.Picks.{pick_true}
+use Rattle.base_little_endian.specs.Words.{u16_at}
+use Rattle.kurbo_geometry.specs.declared.Rect.{Rect}
+use Rattle.kurbo_geometry.specs.Boxes.{inflate}
+use Rattle.display_list_commands.specs.declared.Stroke.{Stroke}
+use Rattle.display_list_commands.specs.declared.DrawCommand.{DrawCommand}
+use Rattle.display_list_commands.specs.Strokes.{stroke_bounds_inflation}
+use Rattle.display_list_commands.specs.Bounds.{transform_of, stroke_bounds, local_with}
 use Rattle.strip_format.specs.Format.{rect_at, affine_at, stroke_at, fill_at, stroke_path_at, run_at, scene_at, command_at, affine_offset, rect_offset}
 use Rattle.strip_format.specs.Finite.{FourFinite}
 use Rattle.strip_format.proofs.Lengths.{length_fill, length_stroke, length_run, length_scene}
 use Rattle.strip_format.proofs.Commands.{command_fill, command_stroke, command_run, command_scene}
-use Rattle.operand_checks.specs.Operands.{operands_at}
-use Rattle.operand_checks.proofs.Floats.{clip_finite, glyph_finite, glyph_floats, fill_finite, stroke_finite, run_finite, scene_finite}
+use Rattle.strip_operand_checks.specs.Operands.{operands_at}
+use Rattle.strip_operand_checks.proofs.Floats.{clip_finite, glyph_finite, glyph_floats, fill_finite, stroke_finite, run_finite, scene_finite}
 use Rattle.strip.specs.Steps.{announced, Draws}
 use Rattle.strip.specs.Effects.{CommandChecked, DrawsAt, OwnBounds}
 

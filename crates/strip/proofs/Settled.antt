@@ -6,19 +6,19 @@ use Prim.Native.Nat.{ℕ, zero, suc, ◌+◌, ◌≤◌, ◌<◌}
 use native.Mathlib.Omega.{arith}
 use borrow.Author.Tests.{lt-ltb, eq-eqb, ne_eqb}
 use lib.Dec.{leb, eqb}
-use Rattle.refusals.specs.declared.Fault.TheVariants.{TooMany, BoxNotFinite}
-use Rattle.refusals.specs.declared.Refusal.{Refusal}
-use Rattle.refusals.specs.Table.{refused}
-use Rattle.lists.specs.Pick.{pick}
-use Rattle.lists.proofs.Picks.{pick_true, pick_false, pick_map}
-use Rattle.geometry.specs.declared.Rect.{Rect}
-use Rattle.affine.specs.declared.Affine.{Affine}
-use Rattle.affine.specs.Affines.{finite_corners, try_transform}
-use Rattle.affine.proofs.Answers.{corners_yes, corners_no}
-use Rattle.commands.specs.Bounds.{transform_of}
+use Rattle.base_refusals.specs.declared.Fault.TheVariants.{TooMany, BoxNotFinite}
+use Rattle.base_refusals.specs.declared.Refusal.{Refusal}
+use Rattle.base_refusals.specs.Table.{refused}
+use Rattle.base_lists.specs.Pick.{pick}
+use Rattle.base_lists.proofs.Picks.{pick_true, pick_false, pick_map}
+use Rattle.kurbo_geometry.specs.declared.Rect.{Rect}
+use Rattle.kurbo_affine.specs.declared.Affine.{Affine}
+use Rattle.kurbo_affine.specs.Affines.{finite_corners, try_transform}
+use Rattle.kurbo_affine.proofs.Answers.{corners_yes, corners_no}
+use Rattle.display_list_commands.specs.Bounds.{transform_of}
 use Rattle.strip_format.specs.Format.{rect_at, command_at}
 use Rattle.strip_format.proofs.Lengths.{length_glyph}
-use Rattle.operand_checks.specs.Operands.{finite_glyph, operands_at}
+use Rattle.strip_operand_checks.specs.Operands.{finite_glyph, operands_at}
 use Rattle.strip.specs.declared.Cursor.{Cursor}
 use Rattle.strip.specs.declared.Effect.{Effect}
 use Rattle.strip.specs.declared.Effect.TheVariants.{Drawn, Done}

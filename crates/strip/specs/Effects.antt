@@ -1,20 +1,20 @@
 -- What a step is, once the box of what it draws is transformed; what is known of a command whose operands passed; and steps that only move the cursor.
-use Rattle.refusals.specs.declared.Fault.TheVariants.{TooMany}
-use Rattle.refusals.specs.declared.Refusal.{Refusal}
-use Rattle.refusals.specs.Table.{refused}
+use Rattle.base_refusals.specs.declared.Fault.TheVariants.{TooMany}
+use Rattle.base_refusals.specs.declared.Refusal.{Refusal}
+use Rattle.base_refusals.specs.Table.{refused}
 use Rattle.std.specs.Prelude.{◌≡◌, true, List, ℕ, zero, suc, ◌+◌, ◌≤◌, ◌<◌, leb, eqb, length, get_or, Some, Result, Ok, Err}
-use Rattle.lists.specs.Pick.{pick}
-use Rattle.geometry.specs.declared.Rect.{Rect}
-use Rattle.affine.specs.declared.Affine.{Affine}
-use Rattle.affine.specs.Affines.{try_transform, finite_corners}
-use Rattle.commands.specs.Bounds.{local_with}
+use Rattle.base_lists.specs.Pick.{pick}
+use Rattle.kurbo_geometry.specs.declared.Rect.{Rect}
+use Rattle.kurbo_affine.specs.declared.Affine.{Affine}
+use Rattle.kurbo_affine.specs.Affines.{try_transform, finite_corners}
+use Rattle.display_list_commands.specs.Bounds.{local_with}
 use Rattle.strip_format.specs.Format.{length_of, rect_at, command_at}
 use Rattle.strip_format.specs.Finite.{FourFinite, FourNear}
 use Rattle.strip_format.specs.Layout as Layout
 use Rattle.strip_format.specs.Limits as Limits
 use Rattle.strip_format.specs.declared.Kind.TheVariants.{Run}
-use Rattle.command_bounds.specs.Kinds.{kind_at}
-use Rattle.operand_checks.specs.Operands.{finite_f32, finite_glyph, operands_at}
+use Rattle.strip_command_bounds.specs.Kinds.{kind_at}
+use Rattle.strip_operand_checks.specs.Operands.{finite_f32, finite_glyph, operands_at}
 use Rattle.strip.specs.declared.Cursor.{Cursor}
 use Rattle.strip.specs.declared.Effect.{Effect}
 use Rattle.strip.specs.declared.Effect.TheVariants.{Drawn, Done}

@@ -1,10 +1,10 @@
 -- Reading a strip to its END: steps, one after the other, and the list of commands that they make.
-use Rattle.refusals.specs.declared.Fault.TheVariants.{CutOff}
-use Rattle.refusals.specs.declared.Refusal.{Refusal}
-use Rattle.refusals.specs.Table.{refused}
+use Rattle.base_refusals.specs.declared.Fault.TheVariants.{CutOff}
+use Rattle.base_refusals.specs.declared.Refusal.{Refusal}
+use Rattle.base_refusals.specs.Table.{refused}
 use Rattle.std.specs.Prelude.{List, [], ◌∷◌, ◌++◌, ℕ, zero, suc, ◌+◌, ◌-◌, length, take, Result, Ok, Err}
-use Rattle.geometry.specs.declared.Rect.{Rect}
-use Rattle.commands.specs.Bounds.{Command, glyph_count}
+use Rattle.kurbo_geometry.specs.declared.Rect.{Rect}
+use Rattle.display_list_commands.specs.Bounds.{Command, glyph_count}
 use Rattle.strip_format.specs.Format.{command_at, glyphs_from}
 use Rattle.strip_format.specs.Layout as Layout
 use Rattle.strip.specs.declared.Cursor.{Cursor}

@@ -1,21 +1,21 @@
 -- One step of reading: the command at the cursor is turned away, or the cursor moves past it. The checks stand in the table's order.
-use Rattle.refusals.specs.declared.Fault.{Fault}
-use Rattle.refusals.specs.declared.Fault.TheVariants.{CutOff, UnknownCode, NoOpenClip, TooMany, GlyphOrder, BoxNotFinite}
-use Rattle.refusals.specs.declared.Refusal.{Refusal}
-use Rattle.refusals.specs.Table.{refused}
+use Rattle.base_refusals.specs.declared.Fault.{Fault}
+use Rattle.base_refusals.specs.declared.Fault.TheVariants.{CutOff, UnknownCode, NoOpenClip, TooMany, GlyphOrder, BoxNotFinite}
+use Rattle.base_refusals.specs.declared.Refusal.{Refusal}
+use Rattle.base_refusals.specs.Table.{refused}
 use Rattle.std.specs.Prelude.{◌≡◌, Bool, List, ℕ, ◌+◌, ◌-◌, leb, ltb, eqb, length, get_or, Option, Some, None, Result, Ok, Err}
 use Rattle.std.specs.Float.{binary64}
 use Rattle.std.specs.Float.Ieee.{of_bits}
-use Rattle.lists.specs.Pick.{pick}
-use Rattle.little_endian.specs.Words.{u16_at}
-use Rattle.geometry.specs.declared.Rect.{Rect}
-use Rattle.geometry.specs.Boxes.{union}
-use Rattle.affine.specs.Affines.{try_transform}
-use Rattle.commands.specs.Bounds.{transform_of, try_with}
+use Rattle.base_lists.specs.Pick.{pick}
+use Rattle.base_little_endian.specs.Words.{u16_at}
+use Rattle.kurbo_geometry.specs.declared.Rect.{Rect}
+use Rattle.kurbo_geometry.specs.Boxes.{union}
+use Rattle.kurbo_affine.specs.Affines.{try_transform}
+use Rattle.display_list_commands.specs.Bounds.{transform_of, try_with}
 use Rattle.strip_format.specs.Format.{length_of, rect_at, command_at}
 use Rattle.strip_format.specs.Layout as Layout
 use Rattle.strip_format.specs.Limits as Limits
-use Rattle.operand_checks.specs.Operands.{operands_at}
+use Rattle.strip_operand_checks.specs.Operands.{operands_at}
 use Rattle.strip.specs.declared.Cursor.{Cursor}
 use Rattle.strip.specs.declared.Step.{Step}
 use Rattle.strip.specs.declared.Step.TheVariants.{Next, Clip, Pop, Draw, End}

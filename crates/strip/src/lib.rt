@@ -2,7 +2,7 @@
 #![tactic(auto)]
 
 ghost use Rattle.std.specs.Prelude.{◌≡◌, true, ◌+◌, ◌≤◌, ◌<◌, ◌^◌, length};
-ghost use Rattle.commands.specs.Bounds.{transform_of};
+ghost use Rattle.display_list_commands.specs.Bounds.{transform_of};
 ghost use Rattle.strip_format.specs.Format.{length_of, command_at};
 ghost use Rattle.strip_format.specs.Kinds.{code};
 ghost use Rattle.strip_format.specs.Layout as Layout;
@@ -14,9 +14,9 @@ ghost use Rattle.strip.specs.Effects as Effects;
 ghost use Rattle.strip.specs.Effects.{settled, drawn_or_many, last_effect, CommandChecked, DrawsAt, OwnBounds};
 ghost use Rattle.strip.specs.Effects.{GlyphDue, GoesOn, NearGoesOn, NearRun, GlyphPlaced, OnlyMoves, Passes};
 
-use affine::Affine;
-use geometry::Rect;
-use refusals::{Fault, Refusal};
+use base_refusals::{Fault, Refusal};
+use kurbo_affine::Affine;
+use kurbo_geometry::Rect;
 use strip_format::limits::{MOST_CLIPS, MOST_COMMANDS, MOST_DEPTH, MOST_GLYPHS};
 use strip_format::{Kind, layout};
 
@@ -201,7 +201,7 @@ impl Cursor {
             return Err(Fault::TooMany.at(at));
         }
         let bounds = strip_format::rect_finite(s, at + layout::GLYPH_BOX);
-        let transform = command_bounds::transform_at(s, self.run);
+        let transform = strip_command_bounds::transform_at(s, self.run);
         if transform.finite_corners(bounds) {
             Ok(self.last(transform, bounds))
         } else {
@@ -226,7 +226,7 @@ fn drawn_bounds(s: &[u8], at: usize, kind: Kind) -> Rect
     let bounds = strip_format::rect_finite(s, strip_format::rect_offset(at, kind));
     match kind {
         Kind::Stroke => {
-            let inflation = commands::stroke_bounds_inflation(strip_format::stroke_at(
+            let inflation = display_list_commands::stroke_bounds_inflation(strip_format::stroke_at(
                 s,
                 at + layout::STROKE_STYLE,
             ));
@@ -319,7 +319,7 @@ pub fn take_step(s: &[u8], st: Cursor) -> Result<Step, Refusal>
         return Err(Fault::CutOff.at(at));
     }
     // A `match`: `?` alone could not say where the fault is, and `map_err` would be handed the place in a closure.
-    match operand_checks::operands(s, at, byte) {
+    match strip_operand_checks::operands(s, at, byte) {
         Ok(()) => settle(effect_of(s, st, kind)?),
         Err(fault) => Err(fault.at(at)),
     }
@@ -329,18 +329,18 @@ pub fn take_step(s: &[u8], st: Cursor) -> Result<Step, Refusal>
 fn glyph_due(s: &[u8], st: Cursor) -> bool
     ensures { result ≡ true → GlyphDue s.now st }
 {
-    2 <= st.due && st.glyphs < MOST_GLYPHS && command_bounds::stands(s, st.at, Kind::Glyph)
+    2 <= st.due && st.glyphs < MOST_GLYPHS && strip_command_bounds::stands(s, st.at, Kind::Glyph)
 }
 
-// True only where the place of such a glyph is finite. Tested here and not by `operand_checks::glyph_passes`, which asks for each float
+// True only where the place of such a glyph is finite. Tested here and not by `strip_operand_checks::glyph_passes`, which asks for each float
 // whether it stands whole.
 #[tactic(auto, using(crate::proofs::Due::due_inside))]
 fn glyph_placed(s: &[u8], st: Cursor) -> bool
     ensures { result ≡ true → GlyphPlaced s.now st }
 {
     glyph_due(s, st)
-        && little_endian::finite32_inside(s, st.at + layout::GLYPH_X)
-        && little_endian::finite32_inside(s, st.at + layout::GLYPH_Y)
+        && base_little_endian::finite32_inside(s, st.at + layout::GLYPH_X)
+        && base_little_endian::finite32_inside(s, st.at + layout::GLYPH_Y)
 }
 
 // True only where such a glyph passes, by the run's affine.
@@ -366,7 +366,7 @@ fn near_goes_on(s: &[u8], st: Cursor) -> bool
 fn near_run(s: &[u8], at: usize) -> bool
     ensures { result ≡ true → NearRun s.now at }
 {
-    command_bounds::stands(s, at, Kind::Run)
+    strip_command_bounds::stands(s, at, Kind::Run)
         && strip_format::near_rect(s, at + layout::RUN_AFFINE)
         && strip_format::near_rect(s, at + layout::RUN_AFFINE + 16)
 }
@@ -402,7 +402,7 @@ pub fn pass_glyphs(s: &[u8], st: Cursor) -> Cursor
             return near;
         }
     }
-    let transform = command_bounds::transform_at(s, st.run);
+    let transform = strip_command_bounds::transform_at(s, st.run);
     pass_while(s, near, |c| glyph_goes_on(s, c, transform))
 }
 

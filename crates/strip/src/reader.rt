@@ -5,7 +5,7 @@ ghost use Rattle.strip.specs.Reading as Reading;
 ghost use Rattle.strip.specs.Steps as Steps;
 
 use crate::Cursor;
-use refusals::Refusal;
+use base_refusals::Refusal;
 
 #[derive(Clone, Copy, Debug)]
 pub struct Reader<'a> {

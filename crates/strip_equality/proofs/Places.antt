@@ -7,13 +7,13 @@ use native.Mathlib.Omega.{arith}
 use lib.Ieee.{binary64, eq}
 use lib.ListN.{get_or}
 use Rattle.std.proofs.lemmas.Bool.{and_from}
-use Rattle.little_endian.specs.Words.{u64_at, finite_or, f64_at}
-use Rattle.little_endian.specs.Same.{SameBytes}
-use Rattle.little_endian.proofs.Alike.{f64_same}
-use Rattle.little_endian.proofs.Parts.{part, part_same, part_twice}
-use Rattle.geometry.specs.Boxes.{same_edges}
-use Rattle.operand_equality.specs.Operands.{same_affine}
-use Rattle.operand_equality.proofs.Selves.{float_self}
+use Rattle.base_little_endian.specs.Words.{u64_at, finite_or, f64_at}
+use Rattle.base_little_endian.specs.Same.{SameBytes}
+use Rattle.base_little_endian.proofs.Alike.{f64_same}
+use Rattle.base_little_endian.proofs.Parts.{part, part_same, part_twice}
+use Rattle.kurbo_geometry.specs.Boxes.{same_edges}
+use Rattle.display_list_operand_equality.specs.Operands.{same_affine}
+use Rattle.display_list_operand_equality.proofs.Selves.{float_self}
 use Rattle.strip_format.specs.Format.{rect_at, affine_at}
 use Rattle.strip_format.proofs.Numbers.{number_at}
 use Rattle.strip_equality.specs.Places.{same_floats}

@@ -1,8 +1,8 @@
 -- Floats, and the operands of a FILL or a STROKE, compared at two offsets of a strip.
 use Rattle.std.specs.Prelude.{Bool, true, ◌&&◌, List, ℕ, zero, suc, ◌+◌}
 use Rattle.std.specs.Float.Ieee.{eq}
-use Rattle.little_endian.specs.Words.{u64_at, f64_at}
-use Rattle.operand_equality.specs.Operands.{same_path}
+use Rattle.base_little_endian.specs.Words.{u64_at, f64_at}
+use Rattle.display_list_operand_equality.specs.Operands.{same_path}
 use Rattle.strip_format.specs.Format.{rect_at, affine_at}
 use Rattle.strip_format.specs.Layout as Layout
 

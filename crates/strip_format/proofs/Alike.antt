@@ -4,9 +4,9 @@ use mathlib.Core.List.{List, ◌∷◌}
 use Prim.Native.Nat.{ℕ, zero, suc, ◌+◌, ◌*◌, ◌≤◌, ◌<◌}
 use native.Mathlib.Omega.{arith}
 use lib.ListN.{get_or}
-use Rattle.little_endian.proofs.Alike.{u32_same, u64_same, f32_same, f64_same}
-use Rattle.little_endian.specs.Same.{SameBytes}
-use Rattle.little_endian.proofs.Parts.{part, part_same, part_twice}
+use Rattle.base_little_endian.proofs.Alike.{u32_same, u64_same, f32_same, f64_same}
+use Rattle.base_little_endian.specs.Same.{SameBytes}
+use Rattle.base_little_endian.proofs.Parts.{part, part_same, part_twice}
 use Rattle.strip_format.specs.Format.{rect_at, affine_at, join_of, cap_of, stroke_at, glyph_at, glyphs_from}
 
 module _ (s r : List ℕ) (by n : ℕ) (same : (i j : ℕ) → j ≡ by + i → i < n → get_or s i 0 ≡ get_or r j 0) where

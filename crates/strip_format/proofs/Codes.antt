@@ -7,7 +7,7 @@ use lib.Dec.{eqb}
 use borrow.Author.Tests.{eqb-true, eqb-false, ne_eqb}
 use Rattle.std.specs.Prelude.{Option, Some, None, Result, Ok, Err}
 use Rattle.std.specs.Result.{result_ok, result_eq}
-use Rattle.lists.proofs.Picks.{pick_cases}
+use Rattle.base_lists.proofs.Picks.{pick_cases}
 use Rattle.strip_format.specs.declared.Kind.{Kind}
 use Rattle.strip_format.specs.contracts.KindPartialEq.TheImpl as kinds
 use Rattle.strip_format.specs.declared.Kind.TheVariants.{End, Clip, Pop, Fill, Stroke, Run, Glyph, Scene}

@@ -6,9 +6,9 @@ use native.Mathlib.Omega.{arith}
 use lib.Dec.{leb, eqb}
 use lib.ListN.{length, get_or}
 use borrow.Author.Tests.{le-leb, lt-leb, ne_eqb, eqb-true}
-use Rattle.lists.specs.Pick.{pick}
-use Rattle.lists.proofs.Picks.{pick_true, pick_false, pick_same, pick_cases}
-use Rattle.commands.specs.declared.DrawCommand.{DrawCommand}
+use Rattle.base_lists.specs.Pick.{pick}
+use Rattle.base_lists.proofs.Picks.{pick_true, pick_false, pick_same, pick_cases}
+use Rattle.display_list_commands.specs.declared.DrawCommand.{DrawCommand}
 use Rattle.strip_format.specs.Format.{length_of, fill_at, stroke_path_at, run_at, scene_at, blank, command_at}
 use Rattle.strip_format.proofs.Lengths.{length_pos}
 

@@ -9,8 +9,8 @@ use lib.Ieee.Scale.{finite}
 use lib.ListN.{length, get_or, set, replicate}
 use borrow.Author.Count.{below_more}
 use Rattle.std.proofs.lemmas.List.{get_or-set_same, get_or-set_other, get_or-replicate}
-use Rattle.little_endian.specs.Words.{u64_at, f64_at}
-use Rattle.little_endian.proofs.Past.{f64_past}
+use Rattle.base_little_endian.specs.Words.{u64_at, f64_at}
+use Rattle.base_little_endian.proofs.Past.{f64_past}
 use Rattle.strip_format.specs.Format.{rect_at, affine_at}
 use Rattle.strip_format.specs.Finite.{AllFinite, FloatsFrom, FourFinite}
 

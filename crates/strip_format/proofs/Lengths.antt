@@ -4,7 +4,7 @@ use Prim.Native.Nat.{ℕ, ◌<◌}
 use native.Mathlib.Omega.{arith}
 use lib.Dec.{eqb}
 use borrow.Author.Tests.{ne_eqb}
-use Rattle.lists.proofs.Picks.{pick_cases}
+use Rattle.base_lists.proofs.Picks.{pick_cases}
 use Rattle.strip_format.specs.Format.{length_of}
 
 -- every command has at least its byte

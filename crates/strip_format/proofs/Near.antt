@@ -6,11 +6,11 @@ use Prim.Native.Nat.{ℕ, ◌+◌, ◌%◌, ◌^◌, ◌<◌}
 use native.Mathlib.Omega.{arith}
 use lib.Ieee.{binary64, of_bits}
 use lib.Ieee.Scale.{finite}
-use Rattle.lists.proofs.Picks.{pick_true}
-use Rattle.ieee.proofs.Magnitudes.{Within, within_finite, bits_within}
-use Rattle.little_endian.specs.Words.{u64_at, finite_or}
-use Rattle.geometry.proofs.Edges.{Edges}
-use Rattle.affine.proofs.Near.{NearAffine}
+use Rattle.base_lists.proofs.Picks.{pick_true}
+use Rattle.base_ieee.proofs.Magnitudes.{Within, within_finite, bits_within}
+use Rattle.base_little_endian.specs.Words.{u64_at, finite_or}
+use Rattle.kurbo_geometry.proofs.Edges.{Edges}
+use Rattle.kurbo_affine.proofs.Near.{NearAffine}
 use Rattle.strip_format.specs.Format.{rect_at, affine_at}
 use Rattle.strip_format.specs.Finite.{FourFinite, near_bits, FourNear}
 

@@ -5,12 +5,12 @@ use lib.Dec.{T}
 use lib.Ieee.{Float, binary32, binary64, fits, of_bits}
 use lib.Ieee.Bits.{of_bits-fits}
 use lib.Ieee.Scale.{finite}
-use Rattle.lists.proofs.Bools.{holds}
-use Rattle.lists.proofs.Picks.{pick_cases}
-use Rattle.little_endian.specs.Words.{u32_at, u64_at, f32_at, f64_at, finite_or}
-use Rattle.geometry.proofs.Edges.{Edges}
-use Rattle.commands.proofs.Finite.{Number}
-use Rattle.commands.proofs.Values.{Entries}
+use Rattle.base_lists.proofs.Bools.{holds}
+use Rattle.base_lists.proofs.Picks.{pick_cases}
+use Rattle.base_little_endian.specs.Words.{u32_at, u64_at, f32_at, f64_at, finite_or}
+use Rattle.kurbo_geometry.proofs.Edges.{Edges}
+use Rattle.display_list_commands.proofs.Finite.{Number}
+use Rattle.display_list_commands.proofs.Values.{Entries}
 use Rattle.strip_format.specs.Format.{rect_at, affine_at}
 
 pub zero_number : Number (of_bits binary64 0)

@@ -5,11 +5,11 @@ use Prim.Native.Nat.{ℕ, ◌+◌, ◌≤◌}
 use native.Mathlib.Omega.{arith}
 use lib.Ieee.{Float, binary32, binary64, of_bits}
 use lib.ListN.{length, get_or}
-use Rattle.geometry.specs.declared.Rect.{Rect}
-use Rattle.commands.specs.declared.Join.TheVariants.{Bevel}
-use Rattle.commands.specs.declared.Cap.TheVariants.{Butt}
-use Rattle.little_endian.specs.Words.{u32_at, u64_at, f32_at, f64_at}
-use Rattle.little_endian.proofs.Past.{byte_past, u32_past, u64_past, f32_past, f64_past}
+use Rattle.kurbo_geometry.specs.declared.Rect.{Rect}
+use Rattle.display_list_commands.specs.declared.Join.TheVariants.{Bevel}
+use Rattle.display_list_commands.specs.declared.Cap.TheVariants.{Butt}
+use Rattle.base_little_endian.specs.Words.{u32_at, u64_at, f32_at, f64_at}
+use Rattle.base_little_endian.proofs.Past.{byte_past, u32_past, u64_past, f32_past, f64_past}
 use Rattle.strip_format.specs.Format.{rect_at, stroke_at, join_of, cap_of, glyph_at}
 
 abbrev z : Float

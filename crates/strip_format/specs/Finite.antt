@@ -3,7 +3,7 @@ use Rattle.std.specs.Prelude.{◌≡◌, true, List, ℕ, ◌+◌, ◌*◌, ◌%
 use Rattle.std.specs.Float.{binary64}
 use Rattle.std.specs.Float.Ieee.{of_bits}
 use Rattle.std.specs.Float.Ieee.Scale.{finite}
-use Rattle.little_endian.specs.Words.{u64_at, f64_at}
+use Rattle.base_little_endian.specs.Words.{u64_at, f64_at}
 
 -- the n f64 from an offset on are
 unfoldable pub AllFinite : List ℕ → ℕ → ℕ → Type 0

@@ -3,18 +3,18 @@
 use Rattle.std.specs.Prelude.{List, [], ◌∷◌, ℕ, zero, suc, ◌+◌, leb, eqb, length, get_or}
 use Rattle.std.specs.Float.{binary64}
 use Rattle.std.specs.Float.Ieee.{of_bits}
-use Rattle.lists.specs.Pick.{pick}
-use Rattle.little_endian.specs.Words.{u16_at, u32_at, u64_at, f32_at, f64_at}
-use Rattle.geometry.specs.declared.Rect.{Rect}
-use Rattle.affine.specs.declared.Affine.{Affine}
-use Rattle.commands.specs.declared.Join.{Join}
-use Rattle.commands.specs.declared.Join.TheVariants.{Bevel, Miter, Round}
-use Rattle.commands.specs.declared.Cap.{Cap}
-use Rattle.commands.specs.declared.Cap.TheVariants.{Butt, Square, Round as RoundCap}
-use Rattle.commands.specs.declared.Stroke.{Stroke}
-use Rattle.commands.specs.declared.Glyph.{Glyph}
-use Rattle.commands.specs.declared.DrawCommand.{DrawCommand}
-use Rattle.commands.specs.declared.DrawCommand.TheVariants.{FillPath, StrokePath, GlyphRun, Scene}
+use Rattle.base_lists.specs.Pick.{pick}
+use Rattle.base_little_endian.specs.Words.{u16_at, u32_at, u64_at, f32_at, f64_at}
+use Rattle.kurbo_geometry.specs.declared.Rect.{Rect}
+use Rattle.kurbo_affine.specs.declared.Affine.{Affine}
+use Rattle.display_list_commands.specs.declared.Join.{Join}
+use Rattle.display_list_commands.specs.declared.Join.TheVariants.{Bevel, Miter, Round}
+use Rattle.display_list_commands.specs.declared.Cap.{Cap}
+use Rattle.display_list_commands.specs.declared.Cap.TheVariants.{Butt, Square, Round as RoundCap}
+use Rattle.display_list_commands.specs.declared.Stroke.{Stroke}
+use Rattle.display_list_commands.specs.declared.Glyph.{Glyph}
+use Rattle.display_list_commands.specs.declared.DrawCommand.{DrawCommand}
+use Rattle.display_list_commands.specs.declared.DrawCommand.TheVariants.{FillPath, StrokePath, GlyphRun, Scene}
 use Rattle.strip_format.specs.Layout as Layout
 
 -- ---- "Length", by the command's byte

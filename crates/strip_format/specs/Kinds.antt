@@ -1,6 +1,6 @@
 -- The commands by their byte: document 01's "0 END, 1 CLIP, 2 POP, 3 FILL, 4 STROKE, 5 RUN, 6 GLYPH, 7 SCENE".
 use Rattle.std.specs.Prelude.{◌≡◌, ℕ, ◌<◌, eqb, Option, Some, None, Result, MatchResult}
-use Rattle.lists.specs.Pick.{pick}
+use Rattle.base_lists.specs.Pick.{pick}
 use Rattle.strip_format.specs.Layout as Layout
 use Rattle.strip_format.specs.declared.Kind.{Kind}
 use Rattle.strip_format.specs.declared.Kind.TheVariants.{End, Clip, Pop, Fill, Stroke, Run, Glyph, Scene}

@@ -5,15 +5,15 @@
 #![tactic(auto)]
 
 ghost use Rattle.std.specs.Prelude.{◌≡◌, ◌+◌, ◌*◌, ◌%◌, ◌^◌, ◌≤◌, ◌<◌, ltb, length, true};
-ghost use Rattle.little_endian.specs.Words.{u16_at, u64_at};
+ghost use Rattle.base_little_endian.specs.Words.{u16_at, u64_at};
 ghost use Rattle.strip_format.specs.Layout as Layout;
 ghost use Rattle.strip_format.specs.Format as Format;
 ghost use Rattle.strip_format.specs.Kinds.{code, Decodes};
 ghost use Rattle.strip_format.specs.Finite.{AllFinite, FloatsFrom, FourFinite, near_bits, FourNear};
 
-use affine::Affine;
-use commands::{Cap, DrawCommand, Join, Stroke};
-use geometry::Rect;
+use display_list_commands::{Cap, DrawCommand, Join, Stroke};
+use kurbo_affine::Affine;
+use kurbo_geometry::Rect;
 
 pub mod layout;
 pub mod limits;
@@ -115,7 +115,7 @@ fn floats_at<const N: usize>(s: &[u8], at: usize) -> [f64; N]
     let mut floats = [0.0; N];
     if at < s.len() {
         for i in 0..N {
-            floats[i] = little_endian::f64_at(s, at + 8 * i);
+            floats[i] = base_little_endian::f64_at(s, at + 8 * i);
         }
     }
     floats
@@ -129,7 +129,7 @@ pub fn all_finite(s: &[u8], at: usize, n: usize) -> bool
     ensures all { AllFinite s.now at n → result ≡ true }
 {
     for i in 0..n {
-        if !little_endian::finite64_inside(s, at + 8 * i) {
+        if !base_little_endian::finite64_inside(s, at + 8 * i) {
             return false;
         }
     }
@@ -145,7 +145,7 @@ fn floats_finite<const N: usize>(s: &[u8], at: usize) -> [f64; N]
 {
     let mut floats = [0.0; N];
     for i in 0..N {
-        floats[i] = little_endian::f64_inside(s, at + 8 * i);
+        floats[i] = base_little_endian::f64_inside(s, at + 8 * i);
     }
     floats
 }
@@ -199,7 +199,7 @@ fn near_at(s: &[u8], at: usize) -> bool
     requires { at + 8 ≤ length s.now }
     ensures { result ≡ ltb (u64_at s.now at % 2 ^ 63) near_bits }
 {
-    little_endian::u64_inside(s, at) % 0x8000_0000_0000_0000 < 0x5f30_0000_0000_0000
+    base_little_endian::u64_inside(s, at) % 0x8000_0000_0000_0000 < 0x5f30_0000_0000_0000
 }
 
 // True only where the four f64 from an offset on are below 2^500 in size. The product of two such is finite, and a sum of a few
@@ -248,12 +248,12 @@ pub fn stroke_at(s: &[u8], at: usize) -> Stroke
         };
     }
     Stroke {
-        width: little_endian::f64_at(s, at),
-        join: join_of(little_endian::byte_at(s, at + layout::STYLE_JOIN)),
-        miter_limit: little_endian::f64_at(s, at + layout::STYLE_MITER_LIMIT),
-        start_cap: cap_of(little_endian::byte_at(s, at + layout::STYLE_START_CAP)),
-        end_cap: cap_of(little_endian::byte_at(s, at + layout::STYLE_END_CAP)),
-        dash: little_endian::u64_at(s, at + layout::STYLE_DASH),
+        width: base_little_endian::f64_at(s, at),
+        join: join_of(base_little_endian::byte_at(s, at + layout::STYLE_JOIN)),
+        miter_limit: base_little_endian::f64_at(s, at + layout::STYLE_MITER_LIMIT),
+        start_cap: cap_of(base_little_endian::byte_at(s, at + layout::STYLE_START_CAP)),
+        end_cap: cap_of(base_little_endian::byte_at(s, at + layout::STYLE_END_CAP)),
+        dash: base_little_endian::u64_at(s, at + layout::STYLE_DASH),
     }
 }
 
@@ -263,10 +263,10 @@ fn fill_at(s: &[u8], at: usize) -> DrawCommand
     ensures { result ≡ Format.fill_at s.now at }
 {
     DrawCommand::FillPath {
-        path: little_endian::u64_at(s, at + layout::FILL_PATH),
+        path: base_little_endian::u64_at(s, at + layout::FILL_PATH),
         bounds: rect_inside(s, at + layout::FILL_BOX),
         transform: affine_inside(s, at + layout::FILL_AFFINE),
-        brush: little_endian::u64_at(s, at + layout::FILL_BRUSH),
+        brush: base_little_endian::u64_at(s, at + layout::FILL_BRUSH),
     }
 }
 
@@ -275,11 +275,11 @@ fn stroke_path_at(s: &[u8], at: usize) -> DrawCommand
     ensures { result ≡ Format.stroke_path_at s.now at }
 {
     DrawCommand::StrokePath {
-        path: little_endian::u64_at(s, at + layout::FILL_PATH),
+        path: base_little_endian::u64_at(s, at + layout::FILL_PATH),
         bounds: rect_inside(s, at + layout::FILL_BOX),
         transform: affine_inside(s, at + layout::FILL_AFFINE),
         stroke: stroke_at(s, at + layout::STROKE_STYLE),
-        brush: little_endian::u64_at(s, at + layout::FILL_BRUSH),
+        brush: base_little_endian::u64_at(s, at + layout::FILL_BRUSH),
     }
 }
 
@@ -288,7 +288,7 @@ pub fn glyph_count_at(s: &[u8], at: usize) -> u16
     requires { at + Layout.run_count < 2 ^ 64 }
     ensures { result ≡ u16_at s.now (at + Layout.run_count) }
 {
-    little_endian::u16_at(s, at + layout::RUN_COUNT)
+    base_little_endian::u16_at(s, at + layout::RUN_COUNT)
 }
 
 fn run_at(s: &[u8], at: usize) -> DrawCommand
@@ -296,10 +296,10 @@ fn run_at(s: &[u8], at: usize) -> DrawCommand
     ensures { result ≡ Format.run_at s.now at }
 {
     DrawCommand::GlyphRun {
-        font: little_endian::u64_at(s, at + layout::RUN_FONT),
-        font_size: little_endian::f32_at(s, at + layout::RUN_SIZE),
+        font: base_little_endian::u64_at(s, at + layout::RUN_FONT),
+        font_size: base_little_endian::f32_at(s, at + layout::RUN_SIZE),
         transform: affine_inside(s, at + layout::RUN_AFFINE),
-        brush: little_endian::u64_at(s, at + layout::RUN_BRUSH),
+        brush: base_little_endian::u64_at(s, at + layout::RUN_BRUSH),
         bounds: rect_inside(s, at + layout::RUN_BOX),
         glyphs: u32::from(glyph_count_at(s, at)),
     }
@@ -310,9 +310,9 @@ fn scene_at(s: &[u8], at: usize) -> DrawCommand
     ensures { result ≡ Format.scene_at s.now at }
 {
     DrawCommand::Scene {
-        content: little_endian::u64_at(s, at + layout::SCENE_CONTENT),
-        generation: little_endian::u64_at(s, at + layout::SCENE_GENERATION),
-        target: little_endian::u64_at(s, at + layout::SCENE_TARGET),
+        content: base_little_endian::u64_at(s, at + layout::SCENE_CONTENT),
+        generation: base_little_endian::u64_at(s, at + layout::SCENE_GENERATION),
+        target: base_little_endian::u64_at(s, at + layout::SCENE_TARGET),
         transform: affine_inside(s, at + layout::SCENE_AFFINE),
         bounds: rect_inside(s, at + layout::SCENE_BOX),
     }

@@ -10,17 +10,17 @@ use lib.Ieee.{binary32, binary64, of_bits}
 use lib.Ieee.Scale.{finite}
 use borrow.Author.Tests.{le-leb, eqb-true}
 use Rattle.std.specs.Prelude.{Err}
-use Rattle.refusals.specs.declared.Fault.TheVariants.{UnknownCode}
-use Rattle.lists.specs.Pick.{pick}
-use Rattle.little_endian.specs.Same.{SameBytes}
-use Rattle.little_endian.proofs.Parts.{part, part_same, part_length, part_twice}
-use Rattle.little_endian.proofs.Alike.{u16_same, u32_same, u64_same, f32_same}
-use Rattle.commands.specs.declared.DrawCommand.TheVariants.{FillPath, StrokePath, GlyphRun, Scene}
+use Rattle.base_refusals.specs.declared.Fault.TheVariants.{UnknownCode}
+use Rattle.base_lists.specs.Pick.{pick}
+use Rattle.base_little_endian.specs.Same.{SameBytes}
+use Rattle.base_little_endian.proofs.Parts.{part, part_same, part_length, part_twice}
+use Rattle.base_little_endian.proofs.Alike.{u16_same, u32_same, u64_same, f32_same}
+use Rattle.display_list_commands.specs.declared.DrawCommand.TheVariants.{FillPath, StrokePath, GlyphRun, Scene}
 use Rattle.strip_format.specs.Format.{length_of, fill_at, stroke_path_at, run_at, scene_at, command_at}
 use Rattle.strip_format.proofs.Alike.{rect_same, affine_same, stroke_same}
 use Rattle.strip_format.proofs.Lengths.{length_pos, length_clip, length_fill, length_stroke, length_run, length_glyph, length_scene}
 use Rattle.strip.proofs.Moves.{at_byte}
-use Rattle.operand_checks.specs.Operands.{finite_from, finite_f32, finite_stroke, finite_run, finite_glyph, codes_fit, floats_pass, operands_at}
+use Rattle.strip_operand_checks.specs.Operands.{finite_from, finite_f32, finite_stroke, finite_run, finite_glyph, codes_fit, floats_pass, operands_at}
 
 pick_both : {A : Type 0} (t : Bool) (x y z w : A) → (t ≡ true → x ≡ z) → (t ≡ false → y ≡ w) → pick t x y ≡ pick t z w
 pick_both true x y z w f g = f refl

@@ -5,18 +5,18 @@ use Prim.Native.Nat.{ℕ, suc, ◌+◌, ◌-◌, ◌≤◌}
 use native.Mathlib.Omega.{arith}
 use lib.ListN.{length, get_or}
 use borrow.Author.Tests.{le-leb}
-use Rattle.refusals.specs.declared.Refusal.{Refusal}
-use Rattle.lists.specs.Members.{All}
-use Rattle.lists.proofs.Members.{all_map, all_append, all_take}
-use Rattle.geometry.specs.declared.Rect.{Rect}
-use Rattle.geometry.proofs.Edges.{Edges}
-use Rattle.affine.specs.Affines.{try_transform}
-use Rattle.commands.specs.declared.Glyph.{Glyph}
-use Rattle.commands.specs.declared.DrawCommand.{DrawCommand}
-use Rattle.commands.specs.Bounds.{Command, transform_of, glyph_count, united, local_bounds, try_with, bounds, glyph_bounds}
-use Rattle.commands.proofs.Runs.{try_is_local}
-use Rattle.commands.proofs.Clips.{Upright}
-use Rattle.commands.proofs.Finite.{Number, bounds_numbers, bounds_upright, glyph_numbers, glyph_upright}
+use Rattle.base_refusals.specs.declared.Refusal.{Refusal}
+use Rattle.base_lists.specs.Members.{All}
+use Rattle.base_lists.proofs.Members.{all_map, all_append, all_take}
+use Rattle.kurbo_geometry.specs.declared.Rect.{Rect}
+use Rattle.kurbo_geometry.proofs.Edges.{Edges}
+use Rattle.kurbo_affine.specs.Affines.{try_transform}
+use Rattle.display_list_commands.specs.declared.Glyph.{Glyph}
+use Rattle.display_list_commands.specs.declared.DrawCommand.{DrawCommand}
+use Rattle.display_list_commands.specs.Bounds.{Command, transform_of, glyph_count, united, local_bounds, try_with, bounds, glyph_bounds}
+use Rattle.display_list_commands.proofs.Runs.{try_is_local}
+use Rattle.display_list_commands.proofs.Clips.{Upright}
+use Rattle.display_list_commands.proofs.Finite.{Number, bounds_numbers, bounds_upright, glyph_numbers, glyph_upright}
 use Rattle.strip_format.specs.Format.{rect_at, run_at, command_at, glyphs_from}
 use Rattle.strip_format.proofs.Lengths.{length_run}
 use Rattle.strip.specs.declared.Cursor.{Cursor}

@@ -5,8 +5,8 @@ use Prim.Native.Nat.{ℕ, zero, suc, ◌+◌, ◌<◌}
 use native.Mathlib.Omega.{arith}
 use lib.ListN.{length, length-append}
 use Rattle.std.specs.Prelude.{Result, Ok, Err}
-use Rattle.refusals.specs.declared.Refusal.{Refusal}
-use Rattle.commands.specs.Bounds.{Command, glyph_count}
+use Rattle.base_refusals.specs.declared.Refusal.{Refusal}
+use Rattle.display_list_commands.specs.Bounds.{Command, glyph_count}
 use Rattle.strip_format.specs.Format.{command_at}
 use Rattle.strip.specs.declared.Cursor.{Cursor}
 use Rattle.strip.specs.declared.Step.{Step}

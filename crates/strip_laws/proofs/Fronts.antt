@@ -7,10 +7,10 @@ use Prim.Native.Nat.{ℕ, zero, suc, ◌+◌, ◌-◌, ◌*◌, ◌≤◌, ◌<�
 use native.Mathlib.Omega.{arith}
 use lib.ListN.{length, get_or, length-append, get_or-append}
 use Rattle.std.specs.Prelude.{Result, Ok, Err}
-use Rattle.refusals.specs.declared.Refusal.{Refusal}
-use Rattle.geometry.specs.declared.Rect.{Rect}
-use Rattle.commands.specs.declared.DrawCommand.{DrawCommand}
-use Rattle.commands.specs.Bounds.{glyph_count}
+use Rattle.base_refusals.specs.declared.Refusal.{Refusal}
+use Rattle.kurbo_geometry.specs.declared.Rect.{Rect}
+use Rattle.display_list_commands.specs.declared.DrawCommand.{DrawCommand}
+use Rattle.display_list_commands.specs.Bounds.{glyph_count}
 use Rattle.strip_format.specs.Format.{command_at, glyphs_from}
 use Rattle.strip.specs.declared.Cursor.{Cursor}
 use Rattle.strip.specs.declared.Step.{Step}

@@ -8,22 +8,22 @@ use native.Mathlib.Omega.{arith}
 use lib.Dec.{leb, ltb, eqb}
 use lib.ListN.{length, get_or}
 use borrow.Author.Tests.{lt-leb, leb-true, leb-false, ltb-true, ltb-false, eq-eqb, eqb-true, eqb-false}
-use Rattle.refusals.specs.Table.{number}
-use Rattle.refusals.specs.declared.Fault.TheVariants.{BoxNotFinite}
-use Rattle.refusals.specs.declared.Refusal.{Refusal}
-use Rattle.refusals.specs.Table.{refused}
-use Rattle.lists.proofs.Picks.{pick_true, pick_false, pick_cases}
-use Rattle.little_endian.specs.Words.{u16_at}
-use Rattle.geometry.specs.declared.Rect.{Rect}
-use Rattle.affine.specs.Affines.{try_transform}
-use Rattle.affine.specs.Unbounded.{UnboundedBox}
-use Rattle.affine.proofs.Unbounded.{unbounded_no_box, no_box_unbounded}
-use Rattle.commands.specs.Bounds.{transform_of, glyph_count, local_bounds, local_with, try_with}
-use Rattle.commands.proofs.Runs.{local_is}
+use Rattle.base_refusals.specs.Table.{number}
+use Rattle.base_refusals.specs.declared.Fault.TheVariants.{BoxNotFinite}
+use Rattle.base_refusals.specs.declared.Refusal.{Refusal}
+use Rattle.base_refusals.specs.Table.{refused}
+use Rattle.base_lists.proofs.Picks.{pick_true, pick_false, pick_cases}
+use Rattle.base_little_endian.specs.Words.{u16_at}
+use Rattle.kurbo_geometry.specs.declared.Rect.{Rect}
+use Rattle.kurbo_affine.specs.Affines.{try_transform}
+use Rattle.kurbo_affine.specs.Unbounded.{UnboundedBox}
+use Rattle.kurbo_affine.proofs.Unbounded.{unbounded_no_box, no_box_unbounded}
+use Rattle.display_list_commands.specs.Bounds.{transform_of, glyph_count, local_bounds, local_with, try_with}
+use Rattle.display_list_commands.proofs.Runs.{local_is}
 use Rattle.strip_format.specs.Format.{length_of, rect_at, command_at}
 use Rattle.strip_format.proofs.Lengths.{length_run}
-use Rattle.operand_checks.specs.Operands.{operands_at}
-use Rattle.operand_checks.proofs.Numbers.{UpTo4, operands_most}
+use Rattle.strip_operand_checks.specs.Operands.{operands_at}
+use Rattle.strip_operand_checks.proofs.Numbers.{UpTo4, operands_most}
 use Rattle.strip.specs.declared.Cursor.{Cursor}
 use Rattle.strip.specs.declared.Step.{Step}
 use Rattle.strip.specs.declared.Step.TheVariants.{Next, Clip, Pop, Draw, End}

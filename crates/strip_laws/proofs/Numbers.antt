@@ -3,15 +3,15 @@ use mathlib.Core.List.{List, [], ◌∷◌}
 use Prim.Native.Nat.{ℕ, zero, suc, ◌+◌, ◌-◌}
 use lib.ListN.{length}
 use Rattle.std.specs.Prelude.{Result, Ok, Err}
-use Rattle.refusals.specs.declared.Refusal.{Refusal}
-use Rattle.lists.specs.Members.{All}
-use Rattle.lists.proofs.Members.{all_append, all_take}
-use Rattle.geometry.specs.declared.Rect.{Rect}
-use Rattle.geometry.proofs.Edges.{Edges}
-use Rattle.commands.specs.declared.DrawCommand.{DrawCommand}
-use Rattle.commands.specs.Bounds.{Command, glyph_count}
-use Rattle.commands.proofs.Finite.{Number}
-use Rattle.commands.proofs.Values.{DrawFloats, Floats}
+use Rattle.base_refusals.specs.declared.Refusal.{Refusal}
+use Rattle.base_lists.specs.Members.{All}
+use Rattle.base_lists.proofs.Members.{all_append, all_take}
+use Rattle.kurbo_geometry.specs.declared.Rect.{Rect}
+use Rattle.kurbo_geometry.proofs.Edges.{Edges}
+use Rattle.display_list_commands.specs.declared.DrawCommand.{DrawCommand}
+use Rattle.display_list_commands.specs.Bounds.{Command, glyph_count}
+use Rattle.display_list_commands.proofs.Finite.{Number}
+use Rattle.display_list_commands.proofs.Values.{DrawFloats, Floats}
 use Rattle.strip_format.specs.Format.{blank, command_at, glyphs_from}
 use Rattle.strip_format.proofs.Commands.{command_cases}
 use Rattle.strip_format.proofs.Numbers.{zero_number, number_at, rect_numbers, entry_numbers}

@@ -1,8 +1,8 @@
 -- No strip is turned away with the number 0, which says that there is a plan. Assumes nothing.
 use Rattle.std.specs.Prelude.{List, ℕ, ◌<◌, Result, Ok, Err}
-use Rattle.refusals.specs.declared.Refusal.{Refusal}
-use Rattle.refusals.specs.Table.{number}
-use Rattle.refusals.proofs.Numbers.{number_positive}
+use Rattle.base_refusals.specs.declared.Refusal.{Refusal}
+use Rattle.base_refusals.specs.Table.{number}
+use Rattle.base_refusals.proofs.Numbers.{number_positive}
 use Rattle.strip.specs.Reading.{read_strip}
 
 -- an answer's number, where it has one, is above 0

@@ -6,17 +6,17 @@ use native.Mathlib.Omega.{arith}
 use lib.Dec.{eqb}
 use lib.ListN.{length, get_or}
 use borrow.Author.Tests.{eq-eqb, ne_eqb}
-use Rattle.refusals.specs.declared.Refusal.{Refusal}
-use Rattle.lists.specs.Members.{All}
-use Rattle.lists.proofs.Members.{all_append}
-use Rattle.lists.proofs.Picks.{pick_true, pick_false}
-use Rattle.geometry.specs.declared.Rect.{Rect}
-use Rattle.geometry.specs.Boxes.{union}
-use Rattle.affine.specs.Affines.{try_transform}
-use Rattle.commands.specs.declared.Glyph.{Glyph}
-use Rattle.commands.specs.declared.DrawCommand.{DrawCommand}
-use Rattle.commands.specs.Bounds.{transform_of, glyph_count, united}
-use Rattle.commands.proofs.Runs.{united_first, united_last}
+use Rattle.base_refusals.specs.declared.Refusal.{Refusal}
+use Rattle.base_lists.specs.Members.{All}
+use Rattle.base_lists.proofs.Members.{all_append}
+use Rattle.base_lists.proofs.Picks.{pick_true, pick_false}
+use Rattle.kurbo_geometry.specs.declared.Rect.{Rect}
+use Rattle.kurbo_geometry.specs.Boxes.{union}
+use Rattle.kurbo_affine.specs.Affines.{try_transform}
+use Rattle.display_list_commands.specs.declared.Glyph.{Glyph}
+use Rattle.display_list_commands.specs.declared.DrawCommand.{DrawCommand}
+use Rattle.display_list_commands.specs.Bounds.{transform_of, glyph_count, united}
+use Rattle.display_list_commands.proofs.Runs.{united_first, united_last}
 use Rattle.strip_format.specs.Format.{length_of, rect_at, command_at, glyph_at, glyphs_from}
 use Rattle.strip_format.proofs.Lengths.{length_run}
 use Rattle.strip.specs.declared.Cursor.{Cursor}

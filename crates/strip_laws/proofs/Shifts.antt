@@ -9,20 +9,20 @@ use native.Mathlib.Omega.{arith}
 use lib.Dec.{leb, ltb, eqb}
 use lib.ListN.{length, get_or}
 use borrow.Author.Tests.{leb-true, leb-false, ltb-true, ltb-false, eqb-true, eqb-false, eq-eqb, ne_eqb}
-use Rattle.refusals.specs.declared.Fault.TheVariants.{CutOff, UnknownCode, GlyphOrder}
-use Rattle.refusals.specs.declared.Fault.{Fault}
-use Rattle.refusals.specs.declared.Refusal.{Refusal}
-use Rattle.refusals.specs.Table.{refusal}
-use Rattle.lists.specs.Pick.{pick}
-use Rattle.lists.proofs.Picks.{pick_cases}
-use Rattle.geometry.specs.declared.Rect.{Rect}
-use Rattle.geometry.specs.Boxes.{union}
-use Rattle.affine.specs.Affines.{try_transform}
-use Rattle.commands.specs.Bounds.{transform_of, try_with}
-use Rattle.little_endian.specs.Words.{u16_at}
+use Rattle.base_refusals.specs.declared.Fault.TheVariants.{CutOff, UnknownCode, GlyphOrder}
+use Rattle.base_refusals.specs.declared.Fault.{Fault}
+use Rattle.base_refusals.specs.declared.Refusal.{Refusal}
+use Rattle.base_refusals.specs.Table.{refusal}
+use Rattle.base_lists.specs.Pick.{pick}
+use Rattle.base_lists.proofs.Picks.{pick_cases}
+use Rattle.kurbo_geometry.specs.declared.Rect.{Rect}
+use Rattle.kurbo_geometry.specs.Boxes.{union}
+use Rattle.kurbo_affine.specs.Affines.{try_transform}
+use Rattle.display_list_commands.specs.Bounds.{transform_of, try_with}
+use Rattle.base_little_endian.specs.Words.{u16_at}
 use Rattle.strip_format.specs.Format.{length_of, rect_at, command_at}
 use Rattle.strip_format.proofs.Lengths.{length_clip, length_run, length_glyph}
-use Rattle.operand_checks.specs.Operands.{operands_at}
+use Rattle.strip_operand_checks.specs.Operands.{operands_at}
 use Rattle.strip.specs.declared.Cursor.{Cursor}
 use Rattle.strip.specs.declared.Step.{Step}
 use Rattle.strip.specs.declared.Step.TheVariants.{Next, Clip, Pop, Draw, End}
@@ -30,7 +30,7 @@ use Rattle.strip.specs.Steps.{due_fits, on_box, past_end, clip_step, pop_step, d
 use Rattle.strip.proofs.Effects.{due_glyph, step_past, step_unknown, step_due, step_short, step_operands, step_effect, operands_cases}
 use Rattle.strip.proofs.Moves.{at_byte}
 use Rattle.strip_laws.proofs.Runs.{InRun}
-use Rattle.little_endian.proofs.Alike.{u16_same}
+use Rattle.base_little_endian.proofs.Alike.{u16_same}
 use Rattle.strip_format.proofs.Alike.{rect_same}
 use Rattle.strip_laws.proofs.Alike.{command_same, operands_same}
 use Rattle.std.specs.Prelude.{Option, Some, None, Result, Ok, Err}

@@ -3,13 +3,13 @@ use mathlib.Core.List.{List, [], ◌∷◌}
 use Prim.Native.Nat.{ℕ, zero, suc, ◌+◌}
 use lib.ListN.{length}
 use Rattle.std.specs.Prelude.{Result, Ok, Err}
-use Rattle.refusals.specs.declared.Refusal.{Refusal}
-use Rattle.lists.specs.Members.{All}
-use Rattle.lists.proofs.Members.{all_none, all_append}
-use Rattle.geometry.specs.declared.Rect.{Rect}
-use Rattle.commands.specs.declared.DrawCommand.{DrawCommand}
-use Rattle.commands.specs.Bounds.{Command, glyph_count}
-use Rattle.commands.specs.Sizes.{size_of}
+use Rattle.base_refusals.specs.declared.Refusal.{Refusal}
+use Rattle.base_lists.specs.Members.{All}
+use Rattle.base_lists.proofs.Members.{all_none, all_append}
+use Rattle.kurbo_geometry.specs.declared.Rect.{Rect}
+use Rattle.display_list_commands.specs.declared.DrawCommand.{DrawCommand}
+use Rattle.display_list_commands.specs.Bounds.{Command, glyph_count}
+use Rattle.display_list_commands.specs.Sizes.{size_of}
 use Rattle.strip_format.specs.Format.{command_at, glyphs_from}
 use Rattle.strip_format.proofs.Commands.{command_cases}
 use Rattle.strip_format.proofs.Numbers.{Single, single_zero, single_at}

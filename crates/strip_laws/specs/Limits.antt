@@ -1,8 +1,8 @@
 -- The words of the laws of reading. Document 01's number 6: "33rd open clip, 4,097th clip pushed", "4,097th drawing command",
 -- "16,385th glyph of a frame".
-use Rattle.refusals.specs.declared.Refusal.{Refusal}
+use Rattle.base_refusals.specs.declared.Refusal.{Refusal}
 use Rattle.std.specs.Prelude.{List, [], ◌∷◌, ℕ, zero, suc, ◌+◌, ◌*◌, ◌≤◌, ◌<◌, length, get_or, Result, Ok, Err}
-use Rattle.commands.specs.Bounds.{glyph_count}
+use Rattle.display_list_commands.specs.Bounds.{glyph_count}
 use Rattle.strip_format.specs.Format.{length_of, command_at}
 use Rattle.strip_format.specs.Layout as Layout
 use Rattle.strip_format.specs.Limits as Limits

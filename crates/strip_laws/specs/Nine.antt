@@ -1,12 +1,12 @@
 -- Number 9 at a step, in the table's words: of which boxes, and that no number which is checked before it is given. That a step gives 9 exactly
 -- then, and at the command, is a law (`given_nine`, `nine_given`).
 use Rattle.std.specs.Prelude.{◌≡◌, true, List, [], ◌⊎◌, ℕ, ◌+◌, ◌≤◌, ◌<◌, length, get_or, Ok}
-use Rattle.affine.specs.Unbounded.{UnboundedBox}
-use Rattle.commands.specs.Bounds.{transform_of, glyph_count, local_bounds}
+use Rattle.kurbo_affine.specs.Unbounded.{UnboundedBox}
+use Rattle.display_list_commands.specs.Bounds.{transform_of, glyph_count, local_bounds}
 use Rattle.strip_format.specs.Format.{length_of, rect_at, command_at}
 use Rattle.strip_format.specs.Layout as Layout
 use Rattle.strip_format.specs.Limits as Limits
-use Rattle.operand_checks.specs.Operands.{operands_at}
+use Rattle.strip_operand_checks.specs.Operands.{operands_at}
 use Rattle.strip.specs.declared.Cursor.{Cursor}
 use Rattle.strip.specs.Steps.{due_fits, unite, Draws}
 

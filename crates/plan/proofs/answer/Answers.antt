@@ -1,7 +1,7 @@
 use Rattle.std.proofs.Common.{rules}
-use Rattle.entry_calls.specs.Lending.{slices_of}
+use Rattle.plan_entry_calls.specs.Lending.{slices_of}
 use Rattle.plan.proofs.Fits.{regions_fit, words_fit}
-use Rattle.plans.specs.Drafts.{next_outcome}
+use Rattle.plan_answers.specs.Drafts.{next_outcome}
 use Rattle.plan.proofs.answer.Goals as goal
 
 pub write_planned-requires-clause-regions : goal.write_planned-requires-clause-regions

@@ -1,7 +1,7 @@
 use Rattle.std.proofs.Common.{rules}
 use mathlib.Core.Path.{◌∙◌}
 use Rattle.planner.proofs.Published.{copies, publishes}
-use Rattle.plans.specs.Drafts.{outcome}
+use Rattle.plan_answers.specs.Drafts.{outcome}
 use Rattle.planner.proofs.plan.Goals as goal
 
 pub publish-requires : goal.publish-requires

@@ -1,8 +1,8 @@
 -- `runtime::glyph_count_at` meets its contract: a RUN announces its glyphs, and no other command has any. Assumes nothing.
 use mathlib.Core.Path.{ap, ◌∙◌}
 use native.Mathlib.Omega.{arith}
-use Rattle.commands.specs.Bounds.{glyph_count}
-use Rattle.command_bounds.proofs.Standing.{is_run}
+use Rattle.display_list_commands.specs.Bounds.{glyph_count}
+use Rattle.strip_command_bounds.proofs.Standing.{is_run}
 use Rattle.runtime.proofs.InPlace.{no_glyphs}
 use Rattle.runtime.proofs.glyph_count_at.Goals as goal
 

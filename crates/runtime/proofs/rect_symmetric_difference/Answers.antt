@@ -1,7 +1,7 @@
 -- `runtime::rect_symmetric_difference` meets its contract: one difference, and then the other. Assumes nothing.
 use native.Mathlib.Omega.{arith}
-use Rattle.differences.specs.Differences.{rect_symmetric_difference}
-use Rattle.rect_list.proofs.Turns.{to_both, to_as}
+use Rattle.display_list_differences.specs.Differences.{rect_symmetric_difference}
+use Rattle.base_rect_list.proofs.Turns.{to_both, to_as}
 use Rattle.runtime.proofs.rect_symmetric_difference.Goals as goal
 
 pub returns : goal.returns

@@ -2,7 +2,7 @@
 use mathlib.Core.Path.{sym, ◌∙◌}
 use mathlib.Core.Bool.{false≢true}
 use native.Mathlib.Omega.{arith}
-use Rattle.command_bounds.proofs.Standing.{is_run}
+use Rattle.strip_command_bounds.proofs.Standing.{is_run}
 use Rattle.runtime.proofs.InPlace.{run_twice}
 use Rattle.runtime.proofs.same_run.Goals as goal
 use Rattle.runtime.proofs.same_run.Goals.{then-stands, else-stands}

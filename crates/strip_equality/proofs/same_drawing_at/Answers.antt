@@ -1,8 +1,8 @@
 -- `strip_equality::same_drawing_at` meets its contract: by the kind of the commands that stand there. Assumes nothing.
 use Rattle.std.specs.Prelude.{Option, Some}
 use Rattle.strip_format.specs.declared.Kind.{Kind}
-use Rattle.equality.specs.Drawings.{same_drawing, same_fill}
-use Rattle.command_bounds.proofs.Standing.{is_fill, is_stroke, is_scene}
+use Rattle.display_list_equality.specs.Drawings.{same_drawing, same_fill}
+use Rattle.strip_command_bounds.proofs.Standing.{is_fill, is_stroke, is_scene}
 use mathlib.Core.Path.{◌≡◌, sym, ap, ◌∙◌}
 use Rattle.strip_equality.proofs.same_drawing_at.Goals as goal
 

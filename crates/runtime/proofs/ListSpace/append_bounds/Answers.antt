@@ -3,9 +3,9 @@ use native.Mathlib.Omega.{arith}
 use mathlib.Core.Path.{◌≡◌, sym, ap, subst, ◌∙◌}
 use mathlib.Core.List.{[]}
 use Prim.Native.Nat.{◌+◌, ◌-◌, ◌*◌, ◌<◌}
-use Rattle.rect_words.proofs.Chunks.{chunk_in}
-use Rattle.rect_list.proofs.Turns.{to_none, to_both, to_as}
-use Rattle.rect_words.specs.Words.{boxes_to}
+use Rattle.base_rect_words.proofs.Chunks.{chunk_in}
+use Rattle.base_rect_list.proofs.Turns.{to_none, to_both, to_as}
+use Rattle.base_rect_words.specs.Words.{boxes_to}
 use Rattle.runtime.proofs.Changes.{boxes_end, boxes_more}
 use Rattle.runtime.proofs.ListSpace.append_bounds.Goals as goal
 

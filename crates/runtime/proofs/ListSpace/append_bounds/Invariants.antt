@@ -1,7 +1,7 @@
 use Prim.Native.Nat.{◌*◌}
 use lib.ListN.{drop}
-use Rattle.rect_list.specs.Rects.{AddedTo}
-use Rattle.rect_words.specs.Words.{boxes_to}
+use Rattle.base_rect_list.specs.Rects.{AddedTo}
+use Rattle.base_rect_words.specs.Words.{boxes_to}
 use Rattle.runtime.proofs.ListSpace.append_bounds.Given as goal
 
 -- the boxes so far are appended

@@ -1,7 +1,7 @@
 -- `ListSpace::append_change` meets its contract: the rectangles of each case. Assumes nothing.
 use mathlib.Core.Path.{refl}
 use native.Mathlib.Omega.{arith}
-use Rattle.rect_list.proofs.Turns.{to_as, to_none}
+use Rattle.base_rect_list.proofs.Turns.{to_as, to_none}
 use Rattle.runtime.proofs.Placed.{glyphs_changed}
 use Rattle.runtime.proofs.ListSpace.append_change.Goals as goal
 

@@ -2,8 +2,8 @@
 use mathlib.Core.Path.{◌≡◌, sym, ◌∙◌}
 use mathlib.Core.Bool.{false, ◌&&◌}
 use Rattle.std.proofs.lemmas.Bool.{and_from}
-use Rattle.lists.proofs.Bools.{and_off}
-use Rattle.stored_lists.specs.Stored.{command_in}
+use Rattle.base_lists.proofs.Bools.{and_off}
+use Rattle.display_list_stored.specs.Stored.{command_in}
 use Rattle.runtime.proofs.Cases.{drawn, equal_off, equal_from, equal_unclipped, runs_unclipped, runs_off, runs_from, tells_same, tells_fills, tells_other, tells_runs}
 use Rattle.runtime.proofs.Placed.{clips_at}
 use Rattle.runtime.proofs.Repeats.{undrawn}

@@ -3,7 +3,7 @@ use mathlib.Core.Path.{◌∙◌, ap, refl}
 use Prim.Native.Nat.{◌+◌, ◌<◌}
 use native.Mathlib.Omega.{arith}
 use Rattle.std.proofs.Common.{rules}
-use Rattle.rect_list.proofs.Turns.{to_start, to_add, to_skip, to_listed, listed_as}
+use Rattle.base_rect_list.proofs.Turns.{to_start, to_add, to_skip, to_listed, listed_as}
 use Rattle.runtime.proofs.Repeats.{clips_of, no_clips_alike}
 use Rattle.runtime.proofs.Changes.{changed_start, changed_told, changed_rest}
 use Rattle.runtime.proofs.ListSpace.diff_dirty.Goals as goal

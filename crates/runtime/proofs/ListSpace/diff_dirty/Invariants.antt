@@ -1,8 +1,8 @@
 use Prim.Native.Nat.{◌*◌, ◌≤◌}
-use Rattle.stored_lists.specs.Stored.{commands_in}
-use Rattle.glyph_changes.specs.Runs.{most_boxes}
-use Rattle.rect_list.proofs.Turns.{AppendedTo}
-use Rattle.changes.specs.Changes.{diff_dirty}
+use Rattle.display_list_stored.specs.Stored.{commands_in}
+use Rattle.display_list_glyph_changes.specs.Runs.{most_boxes}
+use Rattle.base_rect_list.proofs.Turns.{AppendedTo}
+use Rattle.display_list_changes.specs.Changes.{diff_dirty}
 use Rattle.runtime.specs.Placed.{AlikeClips}
 use Rattle.runtime.proofs.Changes.{changed_from}
 use Rattle.runtime.proofs.ListSpace.diff_dirty.Given as goal

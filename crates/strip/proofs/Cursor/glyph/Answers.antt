@@ -2,8 +2,8 @@ use Rattle.std.specs.Prelude.{Err}
 use Rattle.strip.proofs.Settled.{last_settles, corners_finite, corners_not_finite}
 use Rattle.strip.proofs.Effects.{glyph_many}
 use Rattle.strip.specs.Effects.{settle}
-use Rattle.affine.specs.Affines.{finite_corners}
-use Rattle.affine.specs.declared.Affine.{Affine}
+use Rattle.kurbo_affine.specs.Affines.{finite_corners}
+use Rattle.kurbo_affine.specs.declared.Affine.{Affine}
 use mathlib.Core.Path.{sym, ap, ◌∙◌}
 use Rattle.strip.proofs.Cursor.glyph.Goals as goal
 

@@ -1,8 +1,0 @@
-use mathlib.Core.Path.{◌≡◌}
-use Rattle.operand_equality.specs.Operands.{equal_glyphs}
-use Rattle.glyph_changes.specs.Runs.{glyphs_of}
-use Rattle.glyph_changes.proofs.Places.{from}
-use Rattle.glyph_changes.proofs.equal_glyphs.Given as goal
-
-abbrev pub invariant-loop-k : goal.invariant-loop-k
-invariant-loop-k l = equal_glyphs (glyphs_of l.s l.old) (glyphs_of l.s l.new) ≡ equal_glyphs (from l.s l.old.glyphs l.old.count l.k) (from l.s l.new.glyphs l.new.count l.k)

@@ -1,6 +1,0 @@
-use Rattle.std.proofs.Common.{◌*◌}
-use Rattle.little_endian.specs.Same.{SameBytes}
-use Rattle.little_endian.proofs.same_bytes.Given as goal
-
-abbrev pub invariant-loop-k : goal.invariant-loop-k
-invariant-loop-k l = SameBytes l.s l.p l.q (8 * l.k)

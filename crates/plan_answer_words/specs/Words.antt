@@ -1,0 +1,20 @@
+-- An answer as words, and what lent space holds once as many as fit are written to its front.
+use Rattle.base_refusals.specs.declared.Refusal.{Refusal}
+use Rattle.base_refusals.specs.Table.{number}
+use Rattle.std.specs.Prelude.{List, [], ◌∷◌, ◌++◌, ℕ, length, take, drop, Result, Ok, Err}
+use Rattle.plan_answers.specs.declared.Plan.{Plan}
+use Rattle.compositor_candidates.specs.declared.Part.{Part}
+
+-- the words in front, as many as there is room for, then what stood behind them
+unfoldable pub overwritten : List ℕ → List ℕ → List ℕ
+overwritten words old = take (length old) words ++ drop (length words) old
+
+-- number, position, rectangles, regions, index words, pixels, commands emitted; after a refusal no counts
+abbrev pub answer_words : Result Plan Refusal → List ℕ
+answer_words (Ok plan) = 0 ∷ 0 ∷ plan.rects ∷ plan.work.regions_transferred ∷ plan.words ∷ plan.work.pixels_transferred ∷ plan.work.commands_emitted ∷ []
+answer_words (Err why) = number why.fault ∷ why.position ∷ 0 ∷ 0 ∷ 0 ∷ 0 ∷ 0 ∷ []
+
+-- where the row's entries begin and end among the index words; nowhere after a refusal
+abbrev pub part_words : Result Part Refusal → List ℕ
+part_words (Ok part) = part.start ∷ part.end ∷ []
+part_words (Err why) = 0 ∷ 0 ∷ []

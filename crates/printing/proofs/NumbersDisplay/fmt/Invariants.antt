@@ -1,9 +1,0 @@
--- After each turn the numbers up to its own are written.
-use Rattle.std.proofs.Common.{take}
-use Rattle.std.specs.Fmt.{HasWritten, IsPlainFormatter}
-use Rattle.printing.specs.Lines.{numbers}
-use Rattle.printing.proofs.NumbersDisplay.fmt.Given as goal
-
-abbrev pub invariant-loop-n : goal.invariant-loop-n
-invariant-loop-n g l =
-    IsPlainFormatter l.initial.f → HasWritten g.W.Write.write_str_gives l.initial.f (numbers (take l.n-index l.n-items)) l.f

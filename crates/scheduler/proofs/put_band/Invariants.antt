@@ -1,5 +1,0 @@
-use Rattle.scheduler.proofs.Writes.{Writing}
-use Rattle.scheduler.proofs.put_band.Given as goal
-
-abbrev pub invariant-loop-i : goal.invariant-loop-i
-invariant-loop-i l = Writing l.work l.initial.out l.out l.sum l.i
