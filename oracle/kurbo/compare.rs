@@ -274,7 +274,7 @@ fn upright(b: stand_in::Rect) -> stand_in::Rect {
     )
 }
 
-/// Of two equal numbers the first, as `larger` and `smaller` of crate `floats` have it.
+/// Of two equal numbers the first, as `larger` and `smaller` of crate `base_floats` have it.
 fn larger(a: f64, b: f64) -> f64 {
     if a < b { b } else { a }
 }
@@ -290,7 +290,7 @@ fn in_order(t: &[f64; 6], x: f64, y: f64) -> [f64; 2] {
     [t[0] * x + t[2] * y + t[4], t[1] * x + t[3] * y + t[5]]
 }
 
-/// The corners of the first box, in the order of `transformRectBbox` of crate `affine`.
+/// The corners of the first box, in the order of `transformRectBbox` of crate `kurbo_affine`.
 fn corners(o: &Operands, point: Point) -> [[f64; 2]; 4] {
     [(0, 1), (2, 1), (0, 3), (2, 3)].map(|(x, y)| point(&coefficients(o), o[x], o[y]))
 }

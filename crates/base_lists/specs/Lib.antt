@@ -1,4 +1,4 @@
--- What the contracts and laws of `lists` speak of.
+-- What the contracts and laws of `base_lists` speak of.
 pub mod Pick
 pub mod Members
 pub mod Tables

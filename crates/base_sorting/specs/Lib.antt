@@ -1,2 +1,2 @@
--- What the contracts and laws of `sorting` speak of.
+-- What the contracts and laws of `base_sorting` speak of.
 pub mod Sort

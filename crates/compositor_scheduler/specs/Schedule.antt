@@ -1,4 +1,4 @@
--- A schedule, as document 01's compositor.rs has it: "bands from the top, the last cut to the screen; in each" what `bands` says.
+-- A schedule, as document 01's compositor.rs has it: "bands from the top, the last cut to the screen; in each" what `compositor_bands` says.
 -- "Counts: regions, and pixels as the sum of width times height".
 use Rattle.std.specs.Prelude.{◌≡◌, ℕ, zero, suc, ◌+◌, ◌-◌, ◌*◌, ◌/◌, ◌≤◌, min, List, [], ◌∷◌, ◌++◌, leb, length, drop, get_or, Option, Some, None}
 use Rattle.base_lists.specs.Pick.{pick}

@@ -8,7 +8,7 @@ ghost use Rattle.display_list.specs.Lists as Lists;
 use kurbo_affine::Affine;
 use kurbo_geometry::Rect;
 
-// How many clips and commands were pushed, the number of the innermost open clip (0 is none, as in `clips`), and how many
+// How many clips and commands were pushed, the number of the innermost open clip (0 is none, as in `display_list_clips`), and how many
 // clips are open.
 #[derive(Clone, Copy, PartialEq, Eq, Debug)]
 pub struct ListState {

@@ -17,7 +17,7 @@ use strip_format::layout::{GLYPH_BOX, GLYPH_ID, GLYPH_LENGTH, GLYPH_X, GLYPH_Y};
 use strip_format::rect_inside;
 
 // A run's glyphs: where the bytes of the first one begin, how many there are, and the transform and the clip
-// number, of which 0 is none as in `clips`, that bring them to the window.
+// number, of which 0 is none as in `display_list_clips`, that bring them to the window.
 #[derive(Clone, Copy, Debug, PartialEq)]
 pub struct Run {
     pub glyphs: usize,

@@ -1,2 +1,2 @@
--- What a reader must believe of the exported functions beside crates `plan_answers`, `planner`, `candidates` and `answer_words`.
+-- What a reader must believe of the exported functions beside crates `plan_answers`, `planner`, `compositor_candidates` and `plan_answer_words`.
 pub mod Calls

@@ -20,7 +20,7 @@ pub record FourFinite (s : List ℕ) (at : ℕ) : Type 0 where
   pub third : finite (of_bits binary64 (u64_at s (at + 16))) ≡ true
   pub fourth : finite (of_bits binary64 (u64_at s (at + 24))) ≡ true
 
--- the pattern of 2 ^ 500: patterns below it, the sign apart, are those of numbers below 2 ^ 500 in size (`ieee`, `bits_within`)
+-- the pattern of 2 ^ 500: patterns below it, the sign apart, are those of numbers below 2 ^ 500 in size (`base_ieee`, `bits_within`)
 abbrev pub near_bits : ℕ
 near_bits = 1523 * 2 ^ 52
 

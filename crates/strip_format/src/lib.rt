@@ -211,7 +211,8 @@ pub fn near_rect(s: &[u8], at: usize) -> bool
     near_at(s, at) && near_at(s, at + 8) && near_at(s, at + 16) && near_at(s, at + 24)
 }
 
-// The codes are the strip's own: as `From<u8>` of the enums they would stand in `commands`, where no byte is read, and every code over 1 be Round there too.
+// The codes are the strip's own: as `From<u8>` of the enums they would stand in `display_list_commands`, where no byte is read, and every code over 1
+// be Round there too.
 #[tactic(auto, unfolding(crate::specs::Format::join_of))]
 fn join_of(code: u8) -> Join
     ensures { result ≡ Format.join_of code }

@@ -69,7 +69,7 @@ fn new_strip(s: &[u8], old: Cursor) -> Result<Strips, Refusal>
     Ok(Strips { old, new })
 }
 
-// The strips behind the header, and nothing behind them. `recording` has the same two for strips that are stored: this reading
+// The strips behind the header, and nothing behind them. `strip_recording` has the same two for strips that are stored: this reading
 // stores nothing and asks for no space, and one function over both would be handed the step as a closure.
 pub fn read_strips(entry: Entry, s: &[u8]) -> Result<Strips, Refusal>
     ensures { result ≡ Frame.strips_of entry s.now }
