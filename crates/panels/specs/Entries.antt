@@ -17,6 +17,7 @@ abbrev pub entry_after : Option (List ℕ) → Entry
 entry_after none = First
 entry_after (some old) = Next
 
+-- what it gets behind the header
 abbrev pub strips_after : Option (List ℕ) → List ℕ → List ℕ
 strips_after none s = s
 strips_after (some old) s = old ++ s
