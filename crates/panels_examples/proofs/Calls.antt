@@ -51,5 +51,11 @@ pub record Worked : Type 0 where
   pub turn : next_outcome (header ++ (strip page_one ++ strip page_two)) ≡ drafted (items 4) turn_draft
 
 pub worked : Worked
-unfolding outcome changed_glyphs changed_at change changed_bounds diff_dirty same_fill same_run run_alike same_drawing fills_alike runs_alike equal runs_alike_clipped read_from list_from due_fits draw_step run_step last_step glyph_step effect_of step_at finite_from finite_run finite_glyph operands_at length_of command_at glyphs_from same_affine same_bits same_glyph equal_glyph same_path equal_glyphs same_clips united_from bounds glyph_bounds bounding_box transform_rect_bbox finite_point all_finite bound_finite try_transform positive_area same_edges u16_at u32_at u64_at finite_or floor ceil next_down larger smaller size_fits header_of ended strips_of bands_to regions_of cut_to insert_by sort_by join_to join merge_overlapping between intersect union stands_in places row_list entries_to start_of starts_to layout index_words of_int of_bits to_bits eq lt add mul neg bytes glyph_bytes strip
+unfolding outcome changed_glyphs changed_at change changed_bounds diff_dirty same_fill same_run run_alike same_drawing fills_alike runs_alike equal
+    runs_alike_clipped read_from list_from due_fits draw_step run_step last_step glyph_step effect_of step_at finite_from finite_run finite_glyph
+    operands_at length_of command_at glyphs_from same_affine same_bits same_glyph equal_glyph same_path equal_glyphs same_clips united_from bounds
+    glyph_bounds bounding_box transform_rect_bbox finite_point all_finite bound_finite try_transform positive_area same_edges u16_at u32_at u64_at finite_or
+    floor ceil next_down larger smaller size_fits header_of ended strips_of bands_to regions_of cut_to insert_by sort_by join_to join merge_overlapping
+    between intersect union stands_in places row_list entries_to start_of starts_to layout index_words of_int of_bits to_bits eq lt add mul neg bytes
+    glyph_bytes strip
 worked = record { reads_one = refl; reads_two = refl; first = refl; cut = refl; turn = refl }

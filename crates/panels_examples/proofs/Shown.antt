@@ -61,7 +61,8 @@ turns p q k l a b = (
 )
 
 pub shown : Shown
-unfolding paint_whole paint_region paint_all paint_at find find_row bad_row size_fits Inked.paint Inked.text Inked.shape Inked.mark touches positive_area meets spans bounds united_from transform_rect_bbox bounding_box larger smaller lt add mul neg of_int
+unfolding paint_whole paint_region paint_all paint_at find find_row bad_row size_fits Inked.paint Inked.text Inked.shape Inked.mark touches positive_area
+    meets spans bounds united_from transform_rect_bbox bounding_box larger smaller lt add mul neg of_int
 shown = record {
   reads_one = worked.reads_one;
   reads_two = worked.reads_two;

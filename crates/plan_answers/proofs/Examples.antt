@@ -76,5 +76,13 @@ pub record Turn : Type 0 where
 
 -- other inputs are worked out by opening what is opened here: `unfolding worked`
 unfoldable pub worked : Turn
-unfolding outcome items_fit draft_fits changed_glyphs changed_at change changed_bounds diff_dirty same_fill same_stroked same_run same_scene run_alike same_drawing fills_alike runs_alike equal runs_alike_clipped read_from list_from due_fits clip_step pop_step draw_step run_step last_step glyph_step effect_of step_at finite_from finite_stroke finite_run finite_glyph codes_fit operands_at length_of join_of cap_of command_at glyphs_from with_area rect_difference rect_symmetric_difference keep around same_affine same_cap same_stroke same_bits same_glyph equal_glyph same_path equal_glyphs same_clips stroke_bounds_inflation united_from clip_from bounds glyph_bounds bounding_box transform_rect_bbox finite_point all_finite bound_finite try_transform spans meets touches positive_area same_edges u16_at u32_at u64_at finite_or floor ceil next_down larger smaller All Any Pairs size_fits header_of ended strips_of bands_to pixels_of words_of_regions pack from_xy from_yx boxes_to regions_of cut_to insert_by sort_by join_to join merge_overlapping insert sort AtLeast Ascending between intersect union stands_in places row_list entries_to start_of starts_to layout index_words of_int of_bits to_bits eq lt add mul div
+unfolding outcome items_fit draft_fits changed_glyphs changed_at change changed_bounds diff_dirty same_fill same_stroked same_run same_scene run_alike
+    same_drawing fills_alike runs_alike equal runs_alike_clipped read_from list_from due_fits clip_step pop_step draw_step run_step last_step glyph_step
+    effect_of step_at finite_from finite_stroke finite_run finite_glyph codes_fit operands_at length_of join_of cap_of command_at glyphs_from with_area
+    rect_difference rect_symmetric_difference keep around same_affine same_cap same_stroke same_bits same_glyph equal_glyph same_path equal_glyphs
+    same_clips stroke_bounds_inflation united_from clip_from bounds glyph_bounds bounding_box transform_rect_bbox finite_point all_finite bound_finite
+    try_transform spans meets touches positive_area same_edges u16_at u32_at u64_at finite_or floor ceil next_down larger smaller All Any Pairs size_fits
+    header_of ended strips_of bands_to pixels_of words_of_regions pack from_xy from_yx boxes_to regions_of cut_to insert_by sort_by join_to join
+    merge_overlapping insert sort AtLeast Ascending between intersect union stands_in places row_list entries_to start_of starts_to layout index_words
+    of_int of_bits to_bits eq lt add mul div
 worked = record { turn = refl; first = refl; short = refl; behind = refl; empty = refl }
