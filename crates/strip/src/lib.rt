@@ -20,10 +20,6 @@ use kurbo_geometry::Rect;
 use strip_format::limits::{MOST_CLIPS, MOST_COMMANDS, MOST_DEPTH, MOST_GLYPHS};
 use strip_format::{Kind, layout};
 
-mod reader;
-
-pub use reader::{Reader, cursor_at, read_behind};
-
 // Where reading stands: the offset, how many clips are open, what has been counted, how many glyphs are due of the run at
 // `run`, and the union of its glyph boxes so far. Where none is due both stay what they were, and nothing reads them: an Option of the run would
 // be taken apart and put together again at each glyph.

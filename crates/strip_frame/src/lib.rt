@@ -64,7 +64,7 @@ pub fn at_end(s: &[u8], last: Cursor) -> Result<Cursor, Refusal>
 fn new_strip(s: &[u8], old: Cursor) -> Result<Strips, Refusal>
     ensures { result ≡ Frame.then_new s.now old (read_strip s.now old.at) }
 {
-    let last = strip::read_behind(s, old)?;
+    let last = strip_reader::read_behind(s, old)?;
     let new = at_end(s, last)?;
     Ok(Strips { old, new })
 }

@@ -32,7 +32,7 @@ fn record_strip(
     ensures lists { Records s.now at clips commands (space boxes.old below.old items.old item_boxes.old)
         (space boxes.new below.new items.new item_boxes.new) result }
 {
-    let mut st = strip::cursor_at(s, at);
+    let mut st = strip_reader::cursor_at(s, at);
     let mut list = ListState {
         clips,
         top: 0,

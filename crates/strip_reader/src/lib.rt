@@ -1,11 +1,13 @@
 // A strip held together with the offset at which it is read, above the cursor's functions; and two functions for callers that have a strip and a place in
-// it: `cursor_at`, from which strips are recorded, and `read_behind`.
+// it: `cursor_at`, from which strips are recorded, and `read_behind`. A crate of its own, so that its edits need not check all of `strip`.
+#![tactic(auto)]
+
 ghost use Rattle.std.specs.Prelude.{◌≡◌};
 ghost use Rattle.strip.specs.Reading as Reading;
 ghost use Rattle.strip.specs.Steps as Steps;
 
-use crate::Cursor;
 use base_refusals::Refusal;
+use strip::Cursor;
 
 #[derive(Clone, Copy, Debug)]
 pub struct Reader<'a> {
@@ -32,7 +34,7 @@ impl<'a> Reader<'a> {
     pub fn read(self) -> Result<Cursor, Refusal>
         ensures { result ≡ Reading.read_strip self.entry.src.now self.entry.at }
     {
-        crate::read_strip(self.src, self.at)
+        strip::read_strip(self.src, self.at)
     }
 
     // The cursor at the offset, before anything is read of the strip that begins there.
