@@ -54,13 +54,13 @@ pub fn put_plan(plan: Result<Plan, Refusal>, answer: &mut [u64]) -> u32
     }
 }
 
-// Writes that there is no row, whatever the number says of why, and hands the number back.
-pub fn put_no_part(number: u32, part: &mut [u64]) -> u32
-    ensures number { result ≡ number }
+// Writes that there is no row, and hands back why, whatever number that is.
+pub fn put_no_part(why: u32, part: &mut [u64]) -> u32
+    ensures number { result ≡ why }
     ensures words { part.new ≡ overwritten no_part_words part.old }
 {
     overwrite(&[0, 0], part);
-    number
+    why
 }
 
 // Writes where a row's entries begin and end, and hands back the number.
