@@ -7,7 +7,8 @@
  * from proved code (the compiler is covered by no proof, and nothing holds this header to the code but the tests beside
  * it): whatever the bytes and however little space is lent, a call ends, stays within the slices that it was given, and
  * leaves in them what is said below. It keeps nothing between calls, allocates nothing and reads and writes nothing but
- * its slices, so that threads may call it at once, each with slices of its own.
+ * its slices, so that threads may call it at once, each with slices of its own. From outside it needs memcpy and memset
+ * alone.
  *
  * A slice is a pointer and a number of items (not of bytes). What a caller owes, which nothing checks:
  *   - a pointer is not null, also where the length is 0, and is aligned for its type;

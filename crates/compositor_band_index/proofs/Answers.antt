@@ -11,8 +11,9 @@ use lib.ListN.{length, take, drop, length-append, length-drop}
 use lib.Seq.{take_at, drop_at}
 use Rattle.base_lists.proofs.Picks.{pick_true, pick_false, by_le}
 use Rattle.std.proofs.Common.{Some, None}
-use Rattle.compositor_screen.specs.Sizes.{size_fits}
-use Rattle.compositor_screen.proofs.Laws.{size_limits}
+use Rattle.compositor_screen.specs.Sizes.{size_fits, screen}
+use Rattle.compositor_screen.proofs.Laws.{size_limits, size_from, rows_size}
+use Rattle.compositor_rows.specs.Rows.{row_count}
 use Rattle.compositor_index_words.specs.Index.{start_of, layout, index_words}
 use Rattle.compositor_index_words.proofs.Starts.{layout_length}
 use Rattle.compositor_band_index.specs.Answer.{answer, stored}
@@ -22,6 +23,10 @@ use Rattle.compositor_band_index.proofs.Counts.{rows_same, start_most}
 use Rattle.compositor_band_index.proofs.Turns.{fill_all}
 use Rattle.compositor_band_index.proofs.Layouts.{index_layout, index_length}
 use Rattle.base_rect_words.specs.Words.{boxes_to}
+
+-- a screen has as many rows as a size allows, whatever its width
+pub count_fits : (h b : ℕ) → size_fits h ≡ true → size_fits b ≡ true → size_fits (row_count h b) ≡ true
+count_fits h b p q = rows_size (screen 1 h b) (rw (size_from 1 (omega arith) (omega arith), p, q) refl)
 
 -- ---- words that fit, and words that do not
 module _ (words : List ℕ) where

@@ -1,4 +1,4 @@
--- `Reading` has laws of the boxes in lent space, for the crates above; the others have what the loops of `build` keep.
+-- What the loops of `build` keep, and the two cases of its answer.
 pub mod Spans
 pub mod Counts
 pub mod Turns

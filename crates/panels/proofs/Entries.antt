@@ -9,6 +9,7 @@ use lib.ListN.{length, drop, get_or, length-append, get_or-append}
 use borrow.Author.Tests.{le-ltb}
 use Rattle.base_refusals.specs.Table.{refusal}
 use Rattle.std.specs.Prelude.{Result, Ok, Err}
+use Rattle.base_refusals.specs.declared.Fault.{Fault}
 use Rattle.base_refusals.specs.declared.Fault.TheVariants.{Size}
 use Rattle.base_refusals.specs.declared.Refusal.{Refusal}
 use Rattle.base_refusals.specs.Table.{refused}
@@ -53,11 +54,11 @@ module _ (header : List ℕ) (twelve : length header ≡ 12) where
       front i j e h = let f : j ≡ i = omega arith in rw f (sym (get_or-append header s 0 i (omega (arith, twelve))))
 
   -- it is turned away, or its sizes fit
-  pub by_header : (P : Outcome → Type 0) (s : List ℕ) (k : Screen → Outcome) → ((why : Refusal) → P (refuses why)) → (fits screen ≡ true → P (k screen)) → P (on_header (header_of (header ++ s)) k)
+  pub by_header : (P : Outcome → Type 0) (s : List ℕ) (k : Screen → Outcome) → ((f : Fault) → P (refuses (refusal f 0))) → (fits screen ≡ true → P (k screen)) → P (on_header (header_of (header ++ s)) k)
   unfolding header_of
   by_header P s k away f =
       rw (le-ltb (length (header ++ s)) 12 (omega (arith, twelve, length-append header s)), word_same s 0 (omega arith), word_same s 4 (omega arith), word_same s 8 (omega arith))
-      (pick_cases (λ x. P (on_header x k)) (fits screen) (Ok screen) (refused Size 0) f (λ e. away (refusal Size 0)))
+      (pick_cases (λ x. P (on_header x k)) (fits screen) (Ok screen) (refused Size 0) f (λ e. away Size))
 
   -- ---- what a call comes to
   record Drafted (last : Option (List ℕ)) (s : List ℕ) (x : Outcome) : Type 0 where

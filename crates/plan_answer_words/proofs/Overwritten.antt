@@ -1,13 +1,17 @@
 -- Writing as many words as fit. Assumes nothing.
-use mathlib.Core.Path.{◌≡◌, ap, ◌∙◌}
+use mathlib.Core.Path.{◌≡◌, sym, ap, ◌∙◌}
 use mathlib.Core.List.{List, ◌++◌}
-use Prim.Native.Nat.{ℕ, min}
-use Rattle.std.proofs.Math.Nat.{min_comm}
-use Rattle.std.proofs.lemmas.List.{take_min, drop_min}
-use lib.ListN.{length, take, drop}
+use Prim.Native.Nat.{ℕ, ◌≤◌}
+use lib.ListN.{length, take, drop, drop_of_length-le}
+use lib.Seq.{take_all, take-length, drop-length}
 use Rattle.plan_answer_words.specs.Words.{overwritten}
 
--- as many as there are, but no more than there is room for
-pub as_many : (words old : List ℕ) → take (min (length words) (length old)) words ++ drop (min (length words) (length old)) old ≡ overwritten words old
+-- there is room for every word
+pub all_fit : (words old : List ℕ) → length words ≤ length old → take (length words) words ++ drop (length words) old ≡ overwritten words old
 unfolding overwritten
-as_many words old = (λ i. take (min_comm (length words) (length old) i) words ++ drop_min (length words) old i) ∙ ap (λ l. l ++ drop (length words) old) (take_min (length old) words)
+all_fit words old h = ap (λ l. l ++ drop (length words) old) (take-length words ∙ sym (take_all (length old) words h))
+
+-- there is room for no more than these
+pub some_fit : (words old : List ℕ) → length old ≤ length words → take (length old) words ++ drop (length old) old ≡ overwritten words old
+unfolding overwritten
+some_fit words old h = ap (λ l. take (length old) words ++ l) (drop-length old ∙ sym (drop_of_length-le old h))

@@ -9,12 +9,19 @@ use Rattle.compositor_candidates.specs.declared.Part.{Part}
 unfoldable pub overwritten : List ℕ → List ℕ → List ℕ
 overwritten words old = take (length old) words ++ drop (length words) old
 
--- number, position, rectangles, regions, index words, pixels, commands emitted; after a refusal no counts
+-- after a refusal its number and position, and no counts
+abbrev pub refusal_words : ℕ → ℕ → List ℕ
+refusal_words n position = n ∷ position ∷ 0 ∷ 0 ∷ 0 ∷ 0 ∷ 0 ∷ []
+
+-- number, position, rectangles, regions, index words, pixels, commands emitted
 abbrev pub answer_words : Result Plan Refusal → List ℕ
 answer_words (Ok plan) = 0 ∷ 0 ∷ plan.rects ∷ plan.work.regions_transferred ∷ plan.words ∷ plan.work.pixels_transferred ∷ plan.work.commands_emitted ∷ []
-answer_words (Err why) = number why.fault ∷ why.position ∷ 0 ∷ 0 ∷ 0 ∷ 0 ∷ 0 ∷ []
+answer_words (Err why) = refusal_words (number why.fault) why.position
+
+abbrev pub no_part_words : List ℕ
+no_part_words = 0 ∷ 0 ∷ []
 
 -- where the row's entries begin and end among the index words; nowhere after a refusal
 abbrev pub part_words : Result Part Refusal → List ℕ
 part_words (Ok part) = part.start ∷ part.end ∷ []
-part_words (Err why) = 0 ∷ 0 ∷ []
+part_words (Err why) = no_part_words

@@ -32,9 +32,12 @@ impl fmt::Display for Edge {
     }
 }
 
-// What the strips of a call have; nothing where the input is refused.
+// What the strips of a call have; nothing where the input is refused. They are read as the planner reads them, into no space at all: where a program
+// holds two functions that read, the compiler leaves the steps of both by themselves, and reading takes half as much time again.
 fn items_of(entry: Entry, input: &[u8]) -> Option<Items> {
-    strip_frame::read_strips(entry, input).ok().map(Items::from)
+    strip_recording::record_strips(entry, input, &mut [], &mut [], &mut [], &mut [])
+        .ok()
+        .map(Items::from)
 }
 
 // How many starts the index of an input has: one a row, and the end of the last. Nothing without a header.

@@ -296,7 +296,9 @@ fn settle(effect: Effect) -> Result<Step, Refusal>
     }
 }
 
-// One command: turned away, or read. Any cursor will do; one past the end is a refusal too.
+// One command: turned away, or read. Any cursor will do; one past the end is a refusal too. Compiled into its caller, for a program has one loop that
+// reads: left to the compiler, whether all of a step is goes by what else it compiles, and then a page turn takes 3 per cent more instructions.
+#[inline(always)]
 pub fn take_step(s: &[u8], st: Cursor) -> Result<Step, Refusal>
     ensures { result ≡ Steps.step_at s.now st }
 {

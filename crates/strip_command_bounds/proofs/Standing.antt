@@ -20,7 +20,7 @@ use Rattle.strip_format.specs.declared.Kind.{Kind}
 use Rattle.strip_format.specs.declared.Kind.TheVariants.{Fill, Stroke, Run, Scene}
 use Rattle.strip_format.specs.Kinds.{code, kind_of}
 use Rattle.strip_format.proofs.Codes.{kind_known, kind_code, kind_missing as unknown}
-use Rattle.strip_command_bounds.specs.Kinds.{kind_at}
+use Rattle.strip_command_bounds.specs.Kinds.{kind_at, whole_byte_at}
 
 abbrev there : Option Kind → Type 0
 there (Some k) = Unit {0}
@@ -30,6 +30,17 @@ pub missing : {k : Kind} → ◌≡◌ {A = Option Kind} None (Some k) → ⊥
 missing q = subst there (sym q) tt
 
 module _ (s : List ℕ) (at : ℕ) where
+  pub byte_cut : length s < at + length_of (get_or s at 0) → whole_byte_at s at ≡ 0
+  unfolding whole_byte_at
+  byte_cut p = pick_false (leb (at + length_of (get_or s at 0)) (length s)) (get_or s at 0) 0 (lt-leb _ _ p)
+
+  pub byte_past_end : length s ≤ at → whole_byte_at s at ≡ 0
+  byte_past_end p = let q : length s < at + length_of (get_or s at 0) = omega (arith, p, length_pos (get_or s at 0)) in byte_cut q
+
+  pub byte_whole : at + length_of (get_or s at 0) ≤ length s → whole_byte_at s at ≡ get_or s at 0
+  unfolding whole_byte_at
+  byte_whole p = pick_true (leb (at + length_of (get_or s at 0)) (length s)) (get_or s at 0) 0 (le-leb _ _ p)
+
   pub kind_short : length s < at + length_of (get_or s at 0) → kind_at s at ≡ None
   unfolding kind_at
   kind_short p = pick_false (leb (at + length_of (get_or s at 0)) (length s)) (kind_of (get_or s at 0)) None (lt-leb _ _ p)

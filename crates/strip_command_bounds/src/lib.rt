@@ -5,7 +5,7 @@
 ghost use Rattle.std.specs.Prelude.{◌≡◌, true, false, Some};
 ghost use Rattle.display_list_commands.specs.Bounds as Bounds;
 ghost use Rattle.strip_format.specs.Format.{command_at};
-ghost use Rattle.strip_command_bounds.specs.Kinds.{kind_at};
+ghost use Rattle.strip_command_bounds.specs.Kinds.{kind_at, whole_byte_at};
 
 use kurbo_affine::Affine;
 use strip_format::Kind;
@@ -16,6 +16,20 @@ pub fn kind_at(s: &[u8], at: usize) -> Option<Kind>
 {
     let kind = Kind::try_from(*s.get(at)?).ok()?;
     (kind.length() <= s.len() - at).then_some(kind)
+}
+
+// The byte of what stands whole at an offset, else 0: also a byte that no command has, of which `kind_at` knows no kind.
+pub fn whole_byte_at(s: &[u8], at: usize) -> u8
+    ensures { result ≡ whole_byte_at s.now at }
+{
+    if s.len() <= at {
+        return 0;
+    }
+    let byte = s[at];
+    if s.len() - at < strip_format::length_of(byte) {
+        return 0;
+    }
+    byte
 }
 
 // Whether a command of this kind stands whole at an offset. Where the kind is a constant of the caller it compiles to one comparison of the byte,
