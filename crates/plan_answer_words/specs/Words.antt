@@ -18,6 +18,7 @@ abbrev pub answer_words : Result Plan Refusal → List ℕ
 answer_words (Ok plan) = 0 ∷ 0 ∷ plan.rects ∷ plan.work.regions_transferred ∷ plan.words ∷ plan.work.pixels_transferred ∷ plan.work.commands_emitted ∷ []
 answer_words (Err why) = refusal_words (number why.fault) why.position
 
+-- "A refused `candidates` hands back an empty list": both places are 0
 abbrev pub no_part_words : List ℕ
 no_part_words = 0 ∷ 0 ∷ []
 

@@ -33,7 +33,7 @@ impl fmt::Display for Edge {
 }
 
 // What the strips of a call have; nothing where the input is refused. They are read as the planner reads them, into no space at all: where a program
-// holds two functions that read, the compiler leaves the steps of both by themselves, and reading takes half as much time again.
+// holds two functions that read, the compiler leaves the steps of both by themselves, and `replay` then takes twice the time.
 fn items_of(entry: Entry, input: &[u8]) -> Option<Items> {
     strip_recording::record_strips(entry, input, &mut [], &mut [], &mut [], &mut [])
         .ok()
